@@ -1,0 +1,4 @@
+pub mod Shapes
+pub mod Writing
+pub mod Reading
+pub mod Codes

@@ -1,0 +1,4 @@
+pub mod Advance
+pub mod Backward
+pub mod Names
+pub mod Turns

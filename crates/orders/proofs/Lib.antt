@@ -1,0 +1,3 @@
+pub mod Bagged
+mod Queues
+mod Fronts

@@ -1,0 +1,3 @@
+pub mod Bags
+pub mod Rows
+pub mod Drains

@@ -1,0 +1,9 @@
+pub mod Fews
+pub mod Flat
+pub mod Flaws
+pub mod Model
+pub mod Rules
+pub mod Scopes
+pub mod Tokens
+pub mod Whole
+pub mod Starts

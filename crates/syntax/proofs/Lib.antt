@@ -1,0 +1,12 @@
+pub mod Books
+pub mod Bundles
+pub mod Examples
+pub mod Laws
+pub mod Late
+pub mod Limits
+pub mod Names
+pub mod Raw
+pub mod Several
+pub mod Steps
+pub mod Whole
+pub mod Words

@@ -1,0 +1,13 @@
+pub mod Claims
+pub mod Exact
+pub mod Examples
+pub mod Good
+pub mod Grammar
+pub mod Late
+pub mod Limits
+pub mod Marking
+pub mod Marks
+pub mod Parts
+pub mod Readers
+pub mod Syntax
+pub mod Tree

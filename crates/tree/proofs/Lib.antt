@@ -1,0 +1,10 @@
+pub mod Fronts
+pub mod Counts
+pub mod Tallies
+pub mod Wholes
+pub mod Coverings
+pub mod Histories
+pub mod Searched
+pub mod Same
+pub mod Tables
+pub mod Theorem

@@ -1,0 +1,5 @@
+pub mod Bytes
+pub mod Faults
+pub mod Lex
+pub mod Marks
+pub mod Names
