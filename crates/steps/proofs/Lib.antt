@@ -1,0 +1,4 @@
+pub mod Examples
+pub mod Cases
+pub mod Walks
+pub mod Points

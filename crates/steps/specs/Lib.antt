@@ -1,0 +1,10 @@
+pub mod Program
+pub mod State
+pub mod Matching
+pub mod Step
+pub mod Walk
+pub mod Examples
+pub mod Cases
+pub mod Relations
+pub mod Transitions
+pub mod Points
