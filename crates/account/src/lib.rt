@@ -1,4 +1,6 @@
 // What there is to say of a text that holds a book and perhaps a goal.
+#![tactic(auto)]
+
 mod few;
 pub mod lines;
 pub mod occurrences;

@@ -1,4 +1,6 @@
 // Rule books and goals.
+#![tactic(auto)]
+
 pub mod claims;
 pub mod faults;
 pub mod library;

@@ -1,4 +1,6 @@
 // Reads a book and perhaps a goal from the input, and prints an account of them or the refusal.
+#![tactic(auto)]
+
 ghost use Rattle.std.specs.Prelude.{◌≤◌, length, IfOk};
 
 use account::reading::account;

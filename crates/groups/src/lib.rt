@@ -1,4 +1,6 @@
 // Numbers as groups of seven bits, and arguments as numbers.
+#![tactic(auto)]
+
 mod arguments;
 mod laws;
 mod numbers;

@@ -1,4 +1,6 @@
 // Orders in which a search takes up its waiting branches: what any order owes, and the two that are built.
+#![tactic(auto)]
+
 mod branches;
 mod breadth;
 mod depth;

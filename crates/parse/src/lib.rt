@@ -1,4 +1,6 @@
 // Reads the words of a book or goal into trees.
+#![tactic(auto)]
+
 mod bodies;
 pub mod few;
 pub mod flaw;

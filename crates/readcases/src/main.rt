@@ -1,4 +1,6 @@
 // Reads cases from a file, and compares what the reader says of each with what is expected.
+#![tactic(auto)]
+
 mod cases;
 mod running;
 

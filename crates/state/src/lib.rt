@@ -1,4 +1,5 @@
 // The state of the machine: execution stack, store, cells and propagation history, each with all its room from the start.
+#![tactic(auto)]
 
 pub mod change;
 pub mod contents;

@@ -1,4 +1,6 @@
 // The steps of the machine, as definitions, and walks that they give.
+#![tactic(auto)]
+
 ghost use Rattle.steps.specs.Examples.{Examples};
 ghost use Rattle.steps.specs.Cases.{Cases};
 ghost use Rattle.steps.specs.Points.{Points};

@@ -1,4 +1,6 @@
 // The grammar of rule books and goals, over words, and the readers that are exact against it.
+#![tactic(auto)]
+
 ghost use Rattle.syntax.specs.Late.{FaultsAreLate};
 ghost use Rattle.syntax.specs.Claims.{BooksExactly, GoalsExactly, GuardsTold, LimitsExactly, MarkingMovesNothing, WrittenExactly};
 ghost use Rattle.syntax.specs.Examples.{Examples};

@@ -1,3 +1,5 @@
 // Facts, paths and cells as text.
+#![tactic(auto)]
+
 pub mod facts;
 pub mod page;

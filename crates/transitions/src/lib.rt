@@ -1,4 +1,6 @@
 // The steps of the machine against the transitions of the refined semantics: theorems over the definitions of `steps`.
+#![tactic(auto)]
+
 ghost use Rattle.transitions.specs.Accepted.{AcceptedWalks};
 ghost use Rattle.transitions.specs.Books.{BooksFit};
 ghost use Rattle.transitions.specs.Cells.{CellsKnown};

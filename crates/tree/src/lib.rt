@@ -1,4 +1,6 @@
 // The theorem of a search over alternatives.
+#![tactic(auto)]
+
 ghost use Rattle.tree.specs.Laws.{Statement};
 ghost use Rattle.tree.specs.Small.{TwoEnds};
 

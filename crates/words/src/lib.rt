@@ -1,4 +1,6 @@
 // Cuts a text of bytes into words.
+#![tactic(auto)]
+
 pub mod count;
 pub mod faults;
 pub mod marks;
