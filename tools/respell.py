@@ -26,6 +26,7 @@ TOKEN = re.compile(r"[^\s(){}\[\].,;:|\"⌜⌝]+")
 LITERAL = re.compile(r'"(?:\\.|[^"\\])*"|b?\'(?:\\.|[^\'\\])\'')
 TOP = re.compile(r"^(?:abbrev |unfoldable |pub |data |record |ruleset )*([^\s(){}:;,=|\"]+) .*?:(?: |$)")
 MEMBER = re.compile(r"^  (?:pub )*([^\s(){}:;,=|\"]+) : ")
+WITHIN = re.compile(r"^ +(?:abbrev |unfoldable |pub |data |record )*([^\s(){}:;,=|\"]+) .*?:(?: |$)")
 QUOTED = re.compile(r"`[^`\n]*`")
 
 
@@ -56,8 +57,11 @@ def own_names():
         text = read(path)
         for m in re.finditer(r"goal\.([^\s(){}\[\].,;:|]+)", text):
             made.add(m.group(1))
+        module = False
         for line in text.split("\n"):
-            m = TOP.match(line) or MEMBER.match(line)
+            if line and not line.startswith(" "):
+                module = line.startswith("module ")
+            m = TOP.match(line) or MEMBER.match(line) or (WITHIN.match(line) if module else None)
             if m and "-" in m.group(1) and not m.group(1).startswith("-"):
                 own.add(m.group(1))
     return own - made

@@ -28,15 +28,15 @@ module _ (ps : List Code) (q : Predicate) where
     opened : drop i ps ≡ d ∷ drop (i + 1) ps
     opened = drop_more ps i d h ∙ ap (λ x. x ∷ drop (i + 1) ps) (sym s)
 
-    pub sought-here : predicates_agree (coded d) q ≡ true → (has (map coded ps) q ≡ true) × (number_of (map coded ps) q ≡ i)
-    sought-here t =
+    pub sought_here : predicates_agree (coded d) q ≡ true → (has (map coded ps) q ≡ true) × (number_of (map coded ps) q ≡ i)
+    sought_here t =
         let z : i + 0 ≡ i = omega arith in (
           (so.0 ∙ ap (λ l. has (map coded l) q) opened ∙ ap (λ b. b || has (map coded (drop (i + 1) ps)) q) t),
           (so.1 ∙ ap (λ l. i + number_of (map coded l) q) opened ∙ ap (λ b. i + cond b 0 (suc (number_of (map coded (drop (i + 1) ps)) q))) t ∙ z),
         )
 
-    pub sought-later : predicates_agree (coded d) q ≡ false → Sought (i + 1)
-    sought-later t =
+    pub sought_later : predicates_agree (coded d) q ≡ false → Sought (i + 1)
+    sought_later t =
         let z : i + suc (number_of (map coded (drop (i + 1) ps)) q) ≡ i + 1 + number_of (map coded (drop (i + 1) ps)) q = omega arith in (
           (so.0 ∙ ap (λ l. has (map coded l) q) opened ∙ ap (λ b. b || has (map coded (drop (i + 1) ps)) q) t),
           (so.1 ∙ ap (λ l. i + number_of (map coded l) q) opened ∙ ap (λ b. i + cond b 0 (suc (number_of (map coded (drop (i + 1) ps)) q))) t ∙ z),
@@ -61,27 +61,27 @@ predicates_length ps = rw length-map (sym ps.list.ok.0)
 
 -- a row of facts, one at a time
 module _ {T : Type 0} (view : T → Mention) (fs : List T) where
-  abbrev pub Listing-on : ℕ → List Predicate → Type 0
-  Listing-on i ps = listing ps (map view (drop i fs)) ≡ listing [] (map view fs)
+  abbrev pub ListingOn : ℕ → List Predicate → Type 0
+  ListingOn i ps = listing ps (map view (drop i fs)) ≡ listing [] (map view fs)
 
-  module _ (i : ℕ) (x : T) (ps : List Predicate) (h : i < length fs) (s : x ≡ get_or fs i x) (so : Listing-on i ps) where
+  module _ (i : ℕ) (x : T) (ps : List Predicate) (h : i < length fs) (s : x ≡ get_or fs i x) (so : ListingOn i ps) where
     went : on_these (noted ps (view x)) (λ qs. listing qs (map view (drop (i + 1) fs))) ≡ listing [] (map view fs)
     went = sym (ap (λ l. listing ps (map view l)) (drop_more fs i x h ∙ ap (λ y. y ∷ drop (i + 1) fs) (sym s))) ∙ so
 
-    pub listing-more : (qs : List Predicate) → noted ps (view x) ≡ these qs → Listing-on (i + 1) qs
-    listing-more qs e = sym (ap (λ l. on_these l (λ qs. listing qs (map view (drop (i + 1) fs)))) e) ∙ went
+    pub listing_more : (qs : List Predicate) → noted ps (view x) ≡ these qs → ListingOn (i + 1) qs
+    listing_more qs e = sym (ap (λ l. on_these l (λ qs. listing qs (map view (drop (i + 1) fs)))) e) ∙ went
 
-    pub listing-over : (e : BookFault) → Excess e (noted ps (view x)) → Excess e (listing [] (map view fs))
-    listing-over (Grammar (Letter l)) t = t
-    listing-over (Grammar (Barred p)) t = t
-    listing-over (Grammar (TooMany p)) t = sym went ∙ ap (λ l. on_these l (λ qs. listing qs (map view (drop (i + 1) fs)))) t
-    listing-over (Unbound p) t = t
-    listing-over (Reused p) t = t
-    listing-over (InGoal p) t = t
-    listing-over (Unknown p) t = t
-    listing-over Memory t = t
+    pub listing_over : (e : BookFault) → Excess e (noted ps (view x)) → Excess e (listing [] (map view fs))
+    listing_over (Grammar (Letter l)) t = t
+    listing_over (Grammar (Barred p)) t = t
+    listing_over (Grammar (TooMany p)) t = sym went ∙ ap (λ l. on_these l (λ qs. listing qs (map view (drop (i + 1) fs)))) t
+    listing_over (Unbound p) t = t
+    listing_over (Reused p) t = t
+    listing_over (InGoal p) t = t
+    listing_over (Unknown p) t = t
+    listing_over Memory t = t
 
-  pub listing_all : (i : ℕ) (ps : List Predicate) → length fs ≤ i → Listing-on i ps → listing [] (map view fs) ≡ these ps
+  pub listing_all : (i : ℕ) (ps : List Predicate) → length fs ≤ i → ListingOn i ps → listing [] (map view fs) ≡ these ps
   listing_all i ps h so = sym so ∙ ap (λ l. listing ps (map view l)) (drop_all i fs h)
 
 -- a fact's count of arguments
@@ -101,14 +101,14 @@ module _ {T : Type 0} (ps : List Predicate) (view : T → Mention) (fs : List T)
   Knowing i = unknowns ps (map view (drop i fs)) ≡ unknowns ps (map view fs)
 
   module _ (i : ℕ) (x : T) (h : i < length fs) (s : x ≡ get_or fs i x) (so : Knowing i) where
-    knowing-at : cond (has ps (predicate_of (view x))) (unknowns ps (map view (drop (i + 1) fs))) (unknown_at (view x).place) ≡ unknowns ps (map view fs)
-    knowing-at = sym (ap (λ l. unknowns ps (map view l)) (drop_more fs i x h ∙ ap (λ y. y ∷ drop (i + 1) fs) (sym s))) ∙ so
+    knowing_at : cond (has ps (predicate_of (view x))) (unknowns ps (map view (drop (i + 1) fs))) (unknown_at (view x).place) ≡ unknowns ps (map view fs)
+    knowing_at = sym (ap (λ l. unknowns ps (map view l)) (drop_more fs i x h ∙ ap (λ y. y ∷ drop (i + 1) fs) (sym s))) ∙ so
 
-    pub knowing-more : has ps (predicate_of (view x)) ≡ true → Knowing (i + 1)
-    knowing-more t = sym (cond-true (has ps (predicate_of (view x))) _ _ t) ∙ knowing-at
+    pub knowing_more : has ps (predicate_of (view x)) ≡ true → Knowing (i + 1)
+    knowing_more t = sym (cond-true (has ps (predicate_of (view x))) _ _ t) ∙ knowing_at
 
-    pub knowing-not : has ps (predicate_of (view x)) ≡ false → unknowns ps (map view fs) ≡ unknown_at (view x).place
-    knowing-not t = sym knowing-at ∙ cond-false (has ps (predicate_of (view x))) _ _ t
+    pub knowing_not : has ps (predicate_of (view x)) ≡ false → unknowns ps (map view fs) ≡ unknown_at (view x).place
+    knowing_not t = sym knowing_at ∙ cond-false (has ps (predicate_of (view x))) _ _ t
 
   pub knowing_all : (i : ℕ) → length fs ≤ i → Knowing i → unknowns ps (map view fs) ≡ all_known
   knowing_all i h so = sym so ∙ ap (λ l. unknowns ps (map view l)) (drop_all i fs h)

@@ -45,8 +45,8 @@ module _ {X Y : Type 0} (read : Reader X) (say : X → Said) (exact : (ws : List
     by_out f h end q (barred (w ∷ r)) g v = subst (Reason say senseless most text) (same_refused _ f v) (barring w r h (((exact (marked (raw_words text))).refuses (w ∷ r)).0 g))
     by_out f h end q (flawed n w r) g v = subst (Reason say senseless most text) (same_refused _ f v) (faulting n w r h (((exact (marked (raw_words text))).faults n w r).0 g))
 
-    pub reason-for : (f : Refusal) → judged_text k most read text ≡ refused f → Reason say senseless most text f
-    reason-for f e = by_length (leb (length text) most) refl
+    pub reason_for : (f : Refusal) → judged_text k most read text ≡ refused f → Reason say senseless most text f
+    reason_for f e = by_length (leb (length text) most) refl
       where
         by_length : (t : Bool) → leb (length text) most ≡ t → Reason say senseless most text f
         by_length true h = by_out f (leb-true (length text) most h) (text_words text).1 refl (read (marked (raw_words text))) refl (sym (cond-true (leb (length text) most) _ _ h) ∙ e)
@@ -56,17 +56,17 @@ module _ {X Y : Type 0} (read : Reader X) (say : X → Said) (exact : (ws : List
   opened h = cond-true (leb (length text) most) _ _ (le-leb (length text) most h)
 
   module _ (blamed : (x : X) (f : Refusal) → senseless x f → k x ≡ refused f) where
-    pub refused-for : (f : Refusal) → Reason say senseless most text f → judged_text k most read text ≡ refused f
-    refused-for f (too_long h) = cond-false (leb (length text) most) _ _ (lt-leb (length text) most h)
-    refused-for f (misspelt e h q (inl (x, a))) =
+    pub refused_for : (f : Refusal) → Reason say senseless most text f → judged_text k most read text ≡ refused f
+    refused_for f (too_long h) = cond-false (leb (length text) most) _ _ (lt-leb (length text) most h)
+    refused_for f (misspelt e h q (inl (x, a))) =
         opened h ∙ ap (judged k (word_places text) (text_words text).1) (((exact (marked (raw_words text))).accepts x).1 a) ∙ ap (λ z. whole_or z (k x)) q
-    refused-for f (misspelt e h q (inr b)) =
+    refused_for f (misspelt e h q (inr b)) =
         opened h ∙ ap (judged k (word_places text) (text_words text).1) (((exact (marked (raw_words text))).refuses []).1 b) ∙ ap (λ z. refused (end_refusal z)) q
-    refused-for f (unfinished n h q b) =
+    refused_for f (unfinished n h q b) =
         opened h ∙ ap (judged k (word_places text) (text_words text).1) (((exact (marked (raw_words text))).refuses []).1 b) ∙ ap (λ z. refused (end_refusal z)) q
-    refused-for f (barring w r h b) = opened h ∙ ap (judged k (word_places text) (text_words text).1) (((exact (marked (raw_words text))).refuses (w ∷ r)).1 b)
-    refused-for f (faulting n w r h b) = opened h ∙ ap (judged k (word_places text) (text_words text).1) (((exact (marked (raw_words text))).faults n w r).1 b)
-    refused-for f (meaning x g s b) = spelled_means read say (λ ws x r. (exact ws).whole x r) exactly k most text x s ∙ blamed x f b
+    refused_for f (barring w r h b) = opened h ∙ ap (judged k (word_places text) (text_words text).1) (((exact (marked (raw_words text))).refuses (w ∷ r)).1 b)
+    refused_for f (faulting n w r h b) = opened h ∙ ap (judged k (word_places text) (text_words text).1) (((exact (marked (raw_words text))).faults n w r).1 b)
+    refused_for f (meaning x g s b) = spelled_means read say (λ ws x r. (exact ws).whole x r) exactly k most text x s ∙ blamed x f b
 
 -- books
 book_blames : (b : List tree.Rule) (f : Refusal) → book_meaning b ≡ refused f → TooManyPredicates b f
@@ -82,8 +82,8 @@ book_blamed b f (p, q, e) = ap (with_predicates (map rule_model b)) q ∙ ap ref
 pub books_refused : BooksRefused
 unfolding book_of
 books_refused text f = (
-  reason-for read_book say_book book_exact books_written book_meaning TooManyPredicates 8192 text book_blames f,
-  refused-for read_book say_book book_exact books_written book_meaning TooManyPredicates 8192 text book_blamed f,
+  reason_for read_book say_book book_exact books_written book_meaning TooManyPredicates 8192 text book_blames f,
+  refused_for read_book say_book book_exact books_written book_meaning TooManyPredicates 8192 text book_blamed f,
 )
 
 -- goals
@@ -100,6 +100,6 @@ goal_blamed ps c f (p, q, e) = ap (with_known (content_of [] c)) q ∙ ap refuse
 pub goals_refused : GoalsRefused
 unfolding goal_of
 goals_refused ps text f = (
-  reason-for read_goal say_goal goal_exact goals_written (goal_meaning ps) (Lacking ps) 1024 text (goal_blames ps) f,
-  refused-for read_goal say_goal goal_exact goals_written (goal_meaning ps) (Lacking ps) 1024 text (goal_blamed ps) f,
+  reason_for read_goal say_goal goal_exact goals_written (goal_meaning ps) (Lacking ps) 1024 text (goal_blames ps) f,
+  refused_for read_goal say_goal goal_exact goals_written (goal_meaning ps) (Lacking ps) 1024 text (goal_blamed ps) f,
 )

@@ -134,11 +134,11 @@ module _ (c : ℕ) (t : Telling) (n : ℤ) (o : int_le (raised (pos 0) t n) (low
   left_some e false p = λ v m k.
       let i = inside c v m in
       let b = (and_parts (between (pos 0) (pos 63) v) (bit left (unsigned_abs v)) (left_bit v ∙ and_from _ _ (and_from _ _ i.1 i.2) k)).1 in
-      let z : left ≡ 0 = ltb-zero left p in
+      let z : left ≡ 0 = ltb_zero left p in
       both_ways (bit left (unsigned_abs v)) (ap (λ (x : ℕ). bit x (unsigned_abs v)) z ∙ bit_beyond 0 (unsigned_abs v) (pow_pos (unsigned_abs v))) b
     where
-      ltb-zero : (x : ℕ) → nat_lt 0 x ≡ false → x ≡ 0
-      ltb-zero x h = let g = ltb-false 0 x h in omega arith
+      ltb_zero : (x : ℕ) → nat_lt 0 x ≡ false → x ≡ 0
+      ltb_zero x h = let g = ltb-false 0 x h in omega arith
 
 pub narrows : Narrows is_set set_member set_narrowed
 unfolding left

@@ -58,8 +58,8 @@ module _ (hs : Some (tree.Fact tree.Left)) (first : Few CodeMention) (vs₀ vs :
     pub sealed : behind hs y ≡ bound us
     sealed = behind_same hs y ∙ ap (λ σ. behind_from σ y) scoped ∙ seals
 
-    pub rule-made : (l : tree.Label) (z : Some tree.Alternative) (a : Arrow) → arrow_model us (few_mentions first) y ≡ a → rule_model (tree.rule l hs y z) ≡ rule_under us l a z
-    rule-made l z a e =
+    pub rule_made : (l : tree.Label) (z : Some tree.Alternative) (a : Arrow) → arrow_model us (few_mentions first) y ≡ a → rule_model (tree.rule l hs y z) ≡ rule_under us l a z
+    rule_made l z a e =
         let d = behind_extends vs us y seals in
         ap (λ v. rule_under v l (arrow_model v (head_mentions v hs) y) z) (ap scope_names sealed)
         ∙ ap (λ ms. rule_under us l (arrow_model us ms y) z) (ap (λ v. head_mentions v hs) d.1 ∙ comes d.0)

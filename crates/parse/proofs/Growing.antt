@@ -10,7 +10,7 @@ use Rattle.parse.specs.declared.flaw.Flaw.{Flaw}
 use Rattle.parse.specs.Flaws.{listed, Faulted}
 use Rattle.parse.specs.Scopes.{Grows, scope_names}
 use Rattle.parse.specs.Starts.{Over}
-use Rattle.parse.proofs.Loops.{prefix, listed_last, Reading, starts, over-fault, over_found, turn-fault, turn-stop, turn-next}
+use Rattle.parse.proofs.Loops.{prefix, listed_last, Reading, starts, over_fault, over_found, turn_fault, turn_stop, turn_next}
 
 pub binding_same : {vs us : List (List ℕ)} → binding vs ≡ binding us → vs ≡ us
 binding_same e = ap scope_names e
@@ -71,10 +71,10 @@ growing_none first sep part next K flat vs ws at ms final e f = record { read = 
 
 module _ {X M : Type 0} {first : List ℕ} {sep : ℕ} {part : Scope → Reader X} {next : Scope → X → Scope} {K : ℕ} {flat : List (List ℕ) → X → M} {ws : List W} {turn : ℕ} {start vs : List (List ℕ)} {place : ℕ} {ms : List M} {final : Out (Some X)} (so : Growing first sep part next K flat ws final turn start vs place ms) where
   pub growing_over : K ≤ turn → (f : Flaw) → Over ws f first place → Faulted ws f final
-  growing_over h f e = over-fault first sep part next K ws turn (binding vs) place so.read final so.reading h f (over_found ws f first place e)
+  growing_over h f e = over_fault first sep part next K ws turn (binding vs) place so.read final so.reading h f (over_found ws f first place e)
 
   pub growing_fault : turn < K → {f : Flaw} → Faulted ws f (part (binding vs) (drop place ws)) → Faulted ws f final
-  growing_fault h {f} e = turn-fault first sep part next K ws turn (binding vs) place so.read final so.reading h f e
+  growing_fault h {f} e = turn_fault first sep part next K ws turn (binding vs) place so.read final so.reading h f e
 
   module _ (few : turn < K) (extends : Extends next) (a : X) (us : List (List ℕ)) (m : M) (joins : next (binding vs) a ≡ binding us) (comes : (us' : List (List ℕ)) → flat (us ++ us') a ≡ m) (end : ℕ) (got : part (binding vs) (drop place ws) ≡ ok a (drop end ws)) (ns : List M) (grown : ns ≡ ms ++ m ∷ []) where
     longer : (us' : List (List ℕ)) → map (flat (us ++ us')) so.read ≡ ms
@@ -86,21 +86,21 @@ module _ {X M : Type 0} {first : List ℕ} {sep : ℕ} {part : Scope → Reader 
     all_come : (us' : List (List ℕ)) → map (flat (us ++ us')) (so.read ++ a ∷ []) ≡ ns
     all_come us' = map_push (flat (us ++ us')) so.read a ∙ ap (λ l. l ++ flat (us ++ us') a ∷ []) (longer us') ∙ ap (λ x. ms ++ x ∷ []) (comes us') ∙ sym grown
 
-    after-all : nexts next (binding start) (so.read ++ a ∷ []) ≡ binding us
-    after-all = nexts_push next (binding start) so.read a ∙ ap (λ σ. next σ a) so.states ∙ joins
+    after_all : nexts next (binding start) (so.read ++ a ∷ []) ≡ binding us
+    after_all = nexts_push next (binding start) so.read a ∙ ap (λ σ. next σ a) so.states ∙ joins
 
-    pub growing-stop : ahead (kind (sign sep) ∷ []) (drop end ws) ≡ false → (ys : Some X) × (next_all next (binding start) ys ≡ binding us) × ((us' : List (List ℕ)) → map (flat (us ++ us')) (listed ys) ≡ ns) × (final ≡ ok ys (drop end ws))
-    growing-stop m = (
+    pub growing_stop : ahead (kind (sign sep) ∷ []) (drop end ws) ≡ false → (ys : Some X) × (next_all next (binding start) ys ≡ binding us) × ((us' : List (List ℕ)) → map (flat (us ++ us')) (listed ys) ≡ ns) × (final ≡ ok ys (drop end ws))
+    growing_stop m = (
       prefix so.read (last a),
-      nexts_all next (binding start) (prefix so.read (last a)) ∙ ap (nexts next (binding start)) (listed_last so.read a) ∙ after-all,
+      nexts_all next (binding start) (prefix so.read (last a)) ∙ ap (nexts next (binding start)) (listed_last so.read a) ∙ after_all,
       (λ us'. ap (map (flat (us ++ us'))) (listed_last so.read a) ∙ all_come us'),
-      turn-stop first sep part next K ws turn (binding vs) place so.read final so.reading few a end got m,
+      turn_stop first sep part next K ws turn (binding vs) place so.read final so.reading few a end got m,
     )
 
-    pub growing-next : (past : ℕ) → ahead (kind (sign sep) ∷ []) (drop end ws) ≡ true → mark sep (drop end ws) ≡ ok tt (drop past ws) → Growing first sep part next K flat ws final (turn + 1) start us past ns
-    growing-next past m e = record {
+    pub growing_next : (past : ℕ) → ahead (kind (sign sep) ∷ []) (drop end ws) ≡ true → mark sep (drop end ws) ≡ ok tt (drop past ws) → Growing first sep part next K flat ws final (turn + 1) start us past ns
+    growing_next past m e = record {
       read = so.read ++ a ∷ [];
-      states = after-all;
+      states = after_all;
       come = all_come;
-      reading = subst (λ σ. Reading first sep part next K ws final (turn + 1) σ past (so.read ++ a ∷ [])) joins (turn-next first sep part next K ws turn (binding vs) place so.read final so.reading few a end got past m e);
+      reading = subst (λ σ. Reading first sep part next K ws final (turn + 1) σ past (so.read ++ a ∷ [])) joins (turn_next first sep part next K ws turn (binding vs) place so.read final so.reading few a end got past m e);
     }

@@ -79,9 +79,9 @@ module _ {S X : Type 0} (first : List ℕ) (sep : ℕ) (part : S → Reader X) (
   starts σ ws at = let k : K - 0 ≡ K = omega arith in prefix_none _ ∙ ap (λ n. parts first sep part next n σ (drop at ws)) k
 
   module _ (ws : List W) (turn : ℕ) (σ : S) (place : ℕ) (acc : List X) (final : Out (Some X)) (so : Reading ws final turn σ place acc) where
-    pub over-fault : K ≤ turn → (f : Flaw) → Faulted {X = Some X} ws f (over first 5 (drop place ws)) → Faulted ws f final
+    pub over_fault : K ≤ turn → (f : Flaw) → Faulted {X = Some X} ws f (over first 5 (drop place ws)) → Faulted ws f final
     unfolding to_read
-    over-fault h f e =
+    over_fault h f e =
         let k : K - turn ≡ 0 = omega arith in
         let q : mapped (prefix acc) (over first 5 (drop place ws)) ≡ final = ap (λ n. mapped (prefix acc) (parts first sep part next n σ (drop place ws))) (sym k) ∙ so in
         led e (λ r b. sym q ∙ ap (mapped (prefix acc)) b) (λ n w r b. sym q ∙ ap (mapped (prefix acc)) b)
@@ -93,8 +93,8 @@ module _ {S X : Type 0} (first : List ℕ) (sep : ℕ) (part : S → Reader X) (
           let k : K - turn ≡ suc (K - (turn + 1)) = omega arith in
           ap (mapped (prefix acc)) (sym (parts_step first sep part next (K - (turn + 1)) σ (drop place ws))) ∙ ap (λ n. mapped (prefix acc) (parts first sep part next n σ (drop place ws))) (sym k) ∙ so
 
-      pub turn-fault : (f : Flaw) → Faulted ws f (part σ (drop place ws)) → Faulted ws f final
-      turn-fault f e = led e
+      pub turn_fault : (f : Flaw) → Faulted ws f (part σ (drop place ws)) → Faulted ws f final
+      turn_fault f e = led e
           (λ r b. sym opened ∙ ap (λ o. mapped (prefix acc) (after o (on first sep part next (K - (turn + 1)) σ))) b)
           (λ n w r b. sym opened ∙ ap (λ o. mapped (prefix acc) (after o (on first sep part next (K - (turn + 1)) σ))) b)
 
@@ -102,12 +102,12 @@ module _ {S X : Type 0} (first : List ℕ) (sep : ℕ) (part : S → Reader X) (
         went : mapped (prefix acc) (on first sep part next (K - (turn + 1)) σ a (drop end ws)) ≡ final
         went = ap (λ o. mapped (prefix acc) (after o (on first sep part next (K - (turn + 1)) σ))) (sym read) ∙ opened
 
-        pub turn-stop : ahead (kind (sign sep) ∷ []) (drop end ws) ≡ false → final ≡ ok (prefix acc (last a)) (drop end ws)
-        turn-stop m = sym went ∙ ap (mapped (prefix acc)) (cond-false (ahead (kind (sign sep) ∷ []) (drop end ws)) _ _ m)
+        pub turn_stop : ahead (kind (sign sep) ∷ []) (drop end ws) ≡ false → final ≡ ok (prefix acc (last a)) (drop end ws)
+        turn_stop m = sym went ∙ ap (mapped (prefix acc)) (cond-false (ahead (kind (sign sep) ∷ []) (drop end ws)) _ _ m)
 
-        pub turn-next : (past : ℕ) → ahead (kind (sign sep) ∷ []) (drop end ws) ≡ true → mark sep (drop end ws) ≡ ok tt (drop past ws) → Reading ws final (turn + 1) (next σ a) past (acc ++ a ∷ [])
+        pub turn_next : (past : ℕ) → ahead (kind (sign sep) ∷ []) (drop end ws) ≡ true → mark sep (drop end ws) ≡ ok tt (drop past ws) → Reading ws final (turn + 1) (next σ a) past (acc ++ a ∷ [])
         unfolding to_read
-        turn-next past m e =
+        turn_next past m e =
             ap (λ s. mapped (prefix (acc ++ a ∷ [])) (parts first sep part next (K - (turn + 1)) (next σ a) s)) (sym (behind_mark sep (drop end ws) (drop past ws) m e))
             ∙ sym (prefix_fused acc a (parts first sep part next (K - (turn + 1)) (next σ a) (behind_one (drop end ws))))
             ∙ ap (mapped (prefix acc)) (sym (cond-true (ahead (kind (sign sep) ∷ []) (drop end ws)) _ _ m))
@@ -124,21 +124,21 @@ gathers_none first sep part next K flat σ ws at ms final e f = record { read = 
 
 module _ {S X M : Type 0} {first : List ℕ} {sep : ℕ} {part : S → Reader X} {next : S → X → S} {K : ℕ} {flat : X → M} {ws : List W} {turn : ℕ} {σ : S} {place : ℕ} {ms : List M} {final : Out (Some X)} (so : Gathers first sep part next K flat ws final turn σ place ms) where
   pub gathers_over : K ≤ turn → (f : Flaw) → Over ws f first place → Faulted ws f final
-  gathers_over h f e = over-fault first sep part next K ws turn σ place so.read final so.reading h f (over_found ws f first place e)
+  gathers_over h f e = over_fault first sep part next K ws turn σ place so.read final so.reading h f (over_found ws f first place e)
 
   pub gathers_fault : turn < K → {f : Flaw} → Faulted ws f (part σ (drop place ws)) → Faulted ws f final
-  gathers_fault h {f} e = turn-fault first sep part next K ws turn σ place so.read final so.reading h f e
+  gathers_fault h {f} e = turn_fault first sep part next K ws turn σ place so.read final so.reading h f e
 
   module _ (few : turn < K) (a : X) (end : ℕ) (got : part σ (drop place ws) ≡ ok a (drop end ws)) (us : List M) (grown : us ≡ ms ++ flat a ∷ []) where
-    pub gathers-stop : ahead (kind (sign sep) ∷ []) (drop end ws) ≡ false → (ys : Some X) × (map flat (listed ys) ≡ us) × (final ≡ ok ys (drop end ws))
-    gathers-stop m =
-        (prefix so.read (last a), ap (map flat) (listed_last so.read a) ∙ map_push flat so.read a ∙ ap (λ l. l ++ flat a ∷ []) so.come ∙ sym grown, turn-stop first sep part next K ws turn σ place so.read final so.reading few a end got m)
+    pub gathers_stop : ahead (kind (sign sep) ∷ []) (drop end ws) ≡ false → (ys : Some X) × (map flat (listed ys) ≡ us) × (final ≡ ok ys (drop end ws))
+    gathers_stop m =
+        (prefix so.read (last a), ap (map flat) (listed_last so.read a) ∙ map_push flat so.read a ∙ ap (λ l. l ++ flat a ∷ []) so.come ∙ sym grown, turn_stop first sep part next K ws turn σ place so.read final so.reading few a end got m)
 
-    pub gathers-next : (past : ℕ) → ahead (kind (sign sep) ∷ []) (drop end ws) ≡ true → mark sep (drop end ws) ≡ ok tt (drop past ws) → Gathers first sep part next K flat ws final (turn + 1) (next σ a) past us
-    gathers-next past m e = record {
+    pub gathers_next : (past : ℕ) → ahead (kind (sign sep) ∷ []) (drop end ws) ≡ true → mark sep (drop end ws) ≡ ok tt (drop past ws) → Gathers first sep part next K flat ws final (turn + 1) (next σ a) past us
+    gathers_next past m e = record {
       read = so.read ++ a ∷ [];
       come = map_push flat so.read a ∙ ap (λ l. l ++ flat a ∷ []) so.come ∙ sym grown;
-      reading = turn-next first sep part next K ws turn σ place so.read final so.reading few a end got past m e;
+      reading = turn_next first sep part next K ws turn σ place so.read final so.reading few a end got past m e;
     }
 
 -- one more of at most three

@@ -36,16 +36,16 @@ module _ (ns : List Name) (v : List ℕ) where
     opened : drop i ns ≡ get_or ns i d ∷ drop (i + 1) ns
     opened = drop_more ns i d h
 
-    pub sought-here : name_bytes (get_or ns i d) ≡ v → (among (spelled ns) v ≡ true) × (index_of (spelled ns) v ≡ i)
-    sought-here e =
+    pub sought_here : name_bytes (get_or ns i d) ≡ v → (among (spelled ns) v ≡ true) × (index_of (spelled ns) v ≡ i)
+    sought_here e =
         let t = same_yes (name_bytes (get_or ns i d)) v e in
         let z : i + 0 ≡ i = omega arith in (
           (so.0 ∙ ap (λ l. among (spelled l) v) opened ∙ ap (λ b. b || among (spelled (drop (i + 1) ns)) v) t),
           (so.1 ∙ ap (λ l. i + index_of (spelled l) v) opened ∙ ap (λ b. i + cond b 0 (suc (index_of (spelled (drop (i + 1) ns)) v))) t ∙ z),
         )
 
-    pub sought-later : (name_bytes (get_or ns i d) ≡ v → ⊥) → Sought (i + 1)
-    sought-later e =
+    pub sought_later : (name_bytes (get_or ns i d) ≡ v → ⊥) → Sought (i + 1)
+    sought_later e =
         let t = same_no (name_bytes (get_or ns i d)) v e in
         let z : i + suc (index_of (spelled (drop (i + 1) ns)) v) ≡ i + 1 + index_of (spelled (drop (i + 1) ns)) v = omega arith in (
           (so.0 ∙ ap (λ l. among (spelled l) v) opened ∙ ap (λ b. b || among (spelled (drop (i + 1) ns)) v) t),

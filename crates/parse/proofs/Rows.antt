@@ -71,9 +71,9 @@ module _ {ws : List W} {final : Out (List tree.Rule)} {turn : ℕ} {ns : List (L
   collects_end e = (so.read, so.come, sym so.reading ∙ ap (λ l. mapped (λ xs. so.read ++ xs) (left_to_read turn ns l)) e ∙ ap (mapped (λ xs. so.read ++ xs)) (many_none (32 - turn) ns) ∙ ap (λ l. ok l []) (nil_right so.read))
 
   module _ (w : W) (r : List W) (word : drop at ws ≡ w ∷ r) where
-    pub collects-over : 32 ≤ turn → (f : Flaw) → Over ws f first_rule at → Faulted ws f final
+    pub collects_over : 32 ≤ turn → (f : Flaw) → Over ws f first_rule at → Faulted ws f final
     unfolding left_to_read
-    collects-over h f e =
+    collects_over h f e =
         let k : 32 - turn ≡ 0 = omega arith in
         let q : final ≡ mapped (λ xs. so.read ++ xs) (mapped list_of (mapped inl (over first_rule 5 (drop at ws)))) =
         sym so.reading ∙ ap (λ l. mapped (λ xs. so.read ++ xs) (left_to_read turn ns l)) word ∙ ap (λ n. mapped (λ xs. so.read ++ xs) (many first_rule read_rule next_rule n ns (w ∷ r))) k ∙ ap (λ l. mapped (λ xs. so.read ++ xs) (mapped list_of (mapped inl (over first_rule 5 l)))) (sym word) in
@@ -90,14 +90,14 @@ module _ {ws : List W} {final : Out (List tree.Rule)} {turn : ℕ} {ns : List (L
           ∙ ap (λ l. mapped (λ xs. so.read ++ xs) (left_to_read turn ns l)) (sym word)
           ∙ so.reading
 
-      pub collects-fault : {f : Flaw} → Faulted ws f (read_rule ns (drop at ws)) → Faulted ws f final
-      collects-fault e = led e
+      pub collects_fault : {f : Flaw} → Faulted ws f (read_rule ns (drop at ws)) → Faulted ws f final
+      collects_fault e = led e
           (λ s b. sym opened ∙ ap (λ o. mapped (λ xs. so.read ++ xs) (after o (then first_rule read_rule next_rule (32 - (turn + 1)) ns))) b)
           (λ n v s b. sym opened ∙ ap (λ o. mapped (λ xs. so.read ++ xs) (after o (then first_rule read_rule next_rule (32 - (turn + 1)) ns))) b)
 
-      pub collects-next : (x : tree.Rule) (end : ℕ) → read_rule ns (drop at ws) ≡ ok x (drop end ws) → (us : List (List ℕ)) → us ≡ next_rule ns x → (ns' : List Rule) → ns' ≡ ms ++ rule_model x ∷ [] → Collects ws final (turn + 1) us end ns'
+      pub collects_next : (x : tree.Rule) (end : ℕ) → read_rule ns (drop at ws) ≡ ok x (drop end ws) → (us : List (List ℕ)) → us ≡ next_rule ns x → (ns' : List Rule) → ns' ≡ ms ++ rule_model x ∷ [] → Collects ws final (turn + 1) us end ns'
       unfolding left_to_read
-      collects-next x end got us e ns' grown = record {
+      collects_next x end got us e ns' grown = record {
         read = so.read ++ x ∷ [];
         come = map_push rule_model so.read x ∙ ap (λ l. l ++ rule_model x ∷ []) so.come ∙ sym grown;
         reading =

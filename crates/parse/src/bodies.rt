@@ -1,7 +1,7 @@
 // Facts, items and alternatives of bodies and goals.
 ghost use Rattle.std.specs.Prelude.{◌≡◌, drop, vec_items};
 ghost use Rattle.syntax.specs.Grammar.{same};
-ghost use Rattle.syntax.specs.Readers.{read_argument, read-arguments, read_adding, read_tell, read_item, read_items, read_content, read_alternative, read_body};
+ghost use Rattle.syntax.specs.Readers.{read_argument, read_arguments, read_adding, read_tell, read_item, read_items, read_content, read_alternative, read_body};
 ghost use Rattle.parse.specs.Tokens.{words};
 ghost use Rattle.parse.specs.Fews.{few_items};
 ghost use Rattle.parse.specs.Model.{term, mention, telling as the-telling, item as the-item, alternative as the-alternative};
@@ -22,7 +22,7 @@ use std::alloc::Global;
 
 // One to three arguments parted by commas, and where they end.
 fn arguments(ts: &[Token], at: usize, scope: Scope) -> Result<(Few<Term>, usize), Flaw>
-    ensures { Tells (AreAs few_items term (argument_term (scope_variables scope.entry))) (words ts.now) result (read-arguments read_argument same (scoped scope.entry) (drop at (words ts.now))) }
+    ensures { Tells (AreAs few_items term (argument_term (scope_variables scope.entry))) (words ts.now) result (read_arguments read_argument same (scoped scope.entry) (drop at (words ts.now))) }
 {
     let mut terms = Few::Zero;
     let mut place = at;

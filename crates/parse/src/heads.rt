@@ -1,7 +1,7 @@
 // Heads of rules.
 ghost use Rattle.std.specs.Prelude.{◌≡◌, ◌≤◌, map, drop};
 ghost use Rattle.syntax.specs.Grammar.{binding, next_left, next_head, next_all};
-ghost use Rattle.syntax.specs.Readers.{read_left, read-arguments, read_head, read_heads};
+ghost use Rattle.syntax.specs.Readers.{read_left, read_arguments, read_head, read_heads};
 ghost use Rattle.parse.specs.Tokens.{words};
 ghost use Rattle.parse.specs.Model.{term, mention};
 ghost use Rattle.parse.specs.Flat.{left_term, pattern_terms, head_mention, head_mentions, few_terms, few_mentions};
@@ -34,7 +34,7 @@ fn pattern(ts: &[Token], at: usize, names: &mut Names) -> Result<(Term, usize), 
 
 // One to three arguments parted by commas, and where they end.
 fn patterns(ts: &[Token], at: usize, names: &mut Names) -> Result<(Few<Term>, usize), Flaw>
-    ensures { Grows few_terms pattern_terms (next_all next_left) (words ts.now) (variables names.old) result (variables names.new) (read-arguments read_left next_left (binding (variables names.old)) (drop at (words ts.now))) }
+    ensures { Grows few_terms pattern_terms (next_all next_left) (words ts.now) (variables names.old) result (variables names.new) (read_arguments read_left next_left (binding (variables names.old)) (drop at (words ts.now))) }
 {
     let mut terms = Few::Zero;
     let mut place = at;

@@ -78,14 +78,14 @@ module _ (b : Book) where
         let e : row ≡ slice (vec_items b.occurrences) (get_or (vec_items b.places) p d) = is ∙ ap (slice (vec_items b.occurrences)) at in
         (same_heads b (vec_items b.rules) p 0 ∙ ap (occurring (vec_items b.rules)) (omega arith) ∙ sym l.0 ∙ ap (map occurrence) (sym e), omega (arith, l.1, ap length e))
 
-    pub row-few : length row < 255
-    row-few = both.1
+    pub row_few : length row < 255
+    row_few = both.1
 
-    pub row-found : (n i : ℕ) (e : Occurrence) → i + 1 ≡ n → i < length row → Some (occurrence (get_or row i e)) ≡ occurrence_at (occurrences (program b) p) n
-    row-found n i e q h =
+    pub row_found : (n i : ℕ) (e : Occurrence) → i + 1 ≡ n → i < length row → Some (occurrence (get_or row i e)) ≡ occurrence_at (occurrences (program b) p) n
+    row_found n i e q h =
         let lt : i < length (map occurrence row) = simp length-map (omega arith) in
         ap Some (sym (get_or-map occurrence row i e (occurrence e) h)) ∙ sym (some_at (map occurrence row) i (occurrence e) lt)
         ∙ ap (occurrence_at (map occurrence row)) (omega arith) ∙ ap (λ (z : List model.Occurrence). occurrence_at z n) (sym both.0)
 
-    pub row-past : (n : ℕ) → length row < n → None ≡ occurrence_at (occurrences (program b) p) n
-    row-past n h = sym (ap (λ (z : List model.Occurrence). occurrence_at z n) both.0 ∙ none_past (map occurrence row) n (simp length-map (omega arith)))
+    pub row_past : (n : ℕ) → length row < n → None ≡ occurrence_at (occurrences (program b) p) n
+    row_past n h = sym (ap (λ (z : List model.Occurrence). occurrence_at z n) both.0 ∙ none_past (map occurrence row) n (simp length-map (omega arith)))

@@ -119,8 +119,8 @@ module _ (i : ℕ) (items : Facts) (at : ℕ) (place : at ≡ lower i (map store
     pub there : among i (identifiers (map stored items)) ≡ true
     there = there_among i nothing (map stored items) (inside h) same
 
-    pub taken-facts : (next : ℕ) (new : Facts) → ordered 0 next (numbers items) ≡ true → new ≡ take at items ++ drop (at + 1) items → map stored new ≡ without (i ∷ []) (map stored items)
-    taken-facts next new r w =
+    pub taken_facts : (next : ℕ) (new : Facts) → ordered 0 next (numbers items) ≡ true → new ≡ take at items ++ drop (at + 1) items → map stored new ≡ without (i ∷ []) (map stored items)
+    taken_facts next new r w =
         ap (map stored) w ∙ map-append stored (take at items) (drop (at + 1) items) ∙ ap (λ l. l ++ map stored (drop (at + 1) items)) (sym (take-map stored at items))
         ∙ ap (λ l. take at (map stored items) ++ l) (sym (drop-map stored (at + 1) items)) ∙ ap (λ k. take at (map stored items) ++ drop k (map stored items)) (add-one at)
         ∙ ap (λ k. take k (map stored items) ++ drop (suc k) (map stored items)) place ∙ removed_there i nothing 0 next (map stored items) (rising next items r) (inside h) same

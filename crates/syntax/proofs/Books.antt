@@ -3,13 +3,13 @@ use Rattle.std.proofs.Common.{◌≡◌, ℕ, ◌-◌, Bool, true, false, ◌||�
 use Rattle.syntax.specs.Syntax.{W, var, num, weight, sign, kind, mem, fine, Said, front, Fine, Reader}
 use Rattle.syntax.specs.Good.{Good}
 use Rattle.syntax.specs.Exact.{Exact}
-use Rattle.syntax.specs.Parts.{Some, say-parts}
+use Rattle.syntax.specs.Parts.{Some, say_parts}
 use Rattle.syntax.specs.Marks.{at_mark, comma, dot, semicolon, bar, backslash, open_mark, close_mark, plus, minus, colon, hash, ask, simplify, simplify_guarded, propagate, propagate_guarded, true_word, fail_word}
 use Rattle.syntax.specs.Tree.{Number, positive, negative, Sum, alone, raised, lowered, Left, number, cell, variable, Right, fixed, summed, Argument, held, valued, Fact, bare, applied, Relation, Telling, Comparison, compared, Item, added, told, failing, Content, nil, items, Alternative, plainly, weighted, Guard, none, guarded, Arrow, propagating, simplifying, simpagating, Rule, rule}
-use Rattle.syntax.specs.Grammar.{Scope, binding, closed, next_left, next_head, same, seal, scope_of, next_all, behind, count, cell_note, word_note, weight_note, label_word, label_note, next_rule, relation_code, telling_code, say_number, say_left, say_sum, say_right, say_argument, say-fact, say_head, say_adding, say_comparison, say_asking, say_telling, say_item, say_content, say_alternative, say_body, say_guard, say_heads, say_arrow, say_rule, say_book, say_goal}
-use Rattle.syntax.specs.Readers.{read-arguments, read_items, read_body, read_askings, read_heads, name_kind, variable_kind, number_kind, first_left, first_item, first_content, first_alternative, first_rule, fine_note, read_cell_number, number_of, read_number, left_of, read_left, sum_of, read_sum, right_of, read_right, argument_of, read_argument, fact_of, read-fact, read_head, read_adding, comparison_of, read_comparison, read_asking, read_tell, item_of, read_item, content_of, read_content, alternative_of, read_alternative, guard_of, read_guard, arrow_of, read_arrow, RuleParts, rule_of, read_rule, read_book, goal_of, read_goal, behind_mark}
-use Rattle.syntax.proofs.Laws.{rest_fine, fine_app, fine_parts, say_one, say_both, stops_both, both-good, say_fork, only_end_good, via_good}
-use Rattle.syntax.proofs.Several.{Free, Stop, say_mark, mark_good, many-good, many-stop, many_end}
+use Rattle.syntax.specs.Grammar.{Scope, binding, closed, next_left, next_head, same, seal, scope_of, next_all, behind, count, cell_note, word_note, weight_note, label_word, label_note, next_rule, relation_code, telling_code, say_number, say_left, say_sum, say_right, say_argument, say_fact, say_head, say_adding, say_comparison, say_asking, say_telling, say_item, say_content, say_alternative, say_body, say_guard, say_heads, say_arrow, say_rule, say_book, say_goal}
+use Rattle.syntax.specs.Readers.{read_arguments, read_items, read_body, read_askings, read_heads, name_kind, variable_kind, number_kind, first_left, first_item, first_content, first_alternative, first_rule, fine_note, read_cell_number, number_of, read_number, left_of, read_left, sum_of, read_sum, right_of, read_right, argument_of, read_argument, fact_of, read_fact, read_head, read_adding, comparison_of, read_comparison, read_asking, read_tell, item_of, read_item, content_of, read_content, alternative_of, read_alternative, guard_of, read_guard, arrow_of, read_arrow, RuleParts, rule_of, read_rule, read_book, goal_of, read_goal, behind_mark}
+use Rattle.syntax.proofs.Laws.{rest_fine, fine_app, fine_parts, say_one, say_both, stops_both, both_good, say_fork, only_end_good, via_good}
+use Rattle.syntax.proofs.Several.{Free, Stop, say_mark, mark_good, many_good, many_stop, many_end}
 use Rattle.syntax.proofs.Bundles.{Part, Tail, disjoint, mark_part, both_part, both_tail, option, fork_tail, fork_part, via_part, via_tail, kinds_part, several}
 use Rattle.syntax.proofs.Words.{spell_name, name_part, digits_part, cell_number_part, weight_part, variable_part, label_part, relation_part, telling_part}
 use Rattle.syntax.proofs.Whole.{exact}
@@ -153,26 +153,26 @@ abbrev Named : Type 0 → Type 0
 Named A = (n : ℕ × List ℕ) × (((u : Unit {0}) × ((xs : Some A) × Unit {0})) ⊎ Unit {0})
 
 module _ {A : Type 0} (read : Scope → Reader A) (say : Scope → A → Said) (next : Scope → A → Scope) where
-  abbrev of-fact : Fact A → Named A
-  of-fact (bare p n) = ((p, n), inr tt)
-  of-fact (applied p n xs) = ((p, n), inl (tt, (xs, tt)))
+  abbrev of_fact : Fact A → Named A
+  of_fact (bare p n) = ((p, n), inr tt)
+  of_fact (applied p n xs) = ((p, n), inl (tt, (xs, tt)))
 
-  fact_fg : (y : Fact A) → fact_of read next (of-fact y) ≡ y
+  fact_fg : (y : Fact A) → fact_of read next (of_fact y) ≡ y
   fact_fg (bare p n) = refl
   fact_fg (applied p n xs) = refl
 
-  fact_gf : (x : Named A) → of-fact (fact_of read next x) ≡ x
+  fact_gf : (x : Named A) → of_fact (fact_of read next x) ≡ x
   fact_gf ((p, n), inl (u, (xs, v))) = refl
   fact_gf ((p, n), inr u) = refl
 
-  fact_same : (σ : Scope) (x : Named A) → say-fact say next σ (fact_of read next x) ≡ say_both (say_one spell_name fine_note) (λ _. say_fork (say_behind open_mark (say_both (say-parts comma say next 3 σ) (λ _. say_mark close_mark))) (λ _. [])) x
+  fact_same : (σ : Scope) (x : Named A) → say_fact say next σ (fact_of read next x) ≡ say_both (say_one spell_name fine_note) (λ _. say_fork (say_behind open_mark (say_both (say_parts comma say next 3 σ) (λ _. say_mark close_mark))) (λ _. [])) x
   fact_same σ ((p, n), inl (u, (xs, v))) = refl
   fact_same σ ((p, n), inr u) = refl
 
-  pub fact_part : {g : List ℕ} → mem g (kind (sign comma)) ≡ false → disjoint (kind (sign close_mark) ∷ []) (g ++ kind (sign comma) ∷ []) ≡ true → ((σ : Scope) → Part (read σ) (say σ) first_left g) → (σ : Scope) → Part (read-fact read next σ) (say-fact say next σ) (name_kind ∷ []) (kind (sign open_mark) ∷ [])
-  unfolding read-arguments
+  pub fact_part : {g : List ℕ} → mem g (kind (sign comma)) ≡ false → disjoint (kind (sign close_mark) ∷ []) (g ++ kind (sign comma) ∷ []) ≡ true → ((σ : Scope) → Part (read σ) (say σ) first_left g) → (σ : Scope) → Part (read_fact read next σ) (say_fact say next σ) (name_kind ∷ []) (kind (sign open_mark) ∷ [])
+  unfolding read_arguments
   fact_part clear shut p σ =
-      via_part (fact_of read next) of-fact (say-fact say next σ) fact_fg fact_gf (fact_same σ) (both_tail name_part (λ _. option (behind_part open_mark refl (both_part shut (several comma next clear p 3 σ) (λ _. mark_part close_mark)))))
+      via_part (fact_of read next) of_fact (say_fact say next σ) fact_fg fact_gf (fact_same σ) (both_tail name_part (λ _. option (behind_part open_mark refl (both_part shut (several comma next clear p 3 σ) (λ _. mark_part close_mark)))))
 
 pub head_part : (σ : Scope) → Part (read_head σ) (say_head σ) (name_kind ∷ []) (kind (sign open_mark) ∷ [])
 head_part = fact_part read_left say_left next_left refl refl left_part
@@ -243,7 +243,7 @@ content_gf : (x : Unit {0} ⊎ Some Item) → of_content (content_of x) ≡ x
 content_gf (inl u) = refl
 content_gf (inr is) = refl
 
-content_same : (most : ℕ) (σ : Scope) (x : Unit {0} ⊎ Some Item) → say_content most σ (content_of x) ≡ say_fork (say_mark true_word) (say-parts comma say_item same most σ) x
+content_same : (most : ℕ) (σ : Scope) (x : Unit {0} ⊎ Some Item) → say_content most σ (content_of x) ≡ say_fork (say_mark true_word) (say_parts comma say_item same most σ) x
 content_same most σ (inl u) = refl
 content_same most σ (inr is) = refl
 
@@ -305,7 +305,7 @@ guard_gf : (x : Guarded) → of_guard (guard_of x) ≡ x
 guard_gf (inl (u, (cs, v))) = refl
 guard_gf (inr u) = refl
 
-guard_same : (p q : ℕ) (σ : Scope) (x : Guarded) → say_guard p q σ (guard_of x) ≡ say_fork (say_behind q (say_both (say-parts comma say_asking same 4 σ) (λ _. say_mark bar))) (say_mark p) x
+guard_same : (p q : ℕ) (σ : Scope) (x : Guarded) → say_guard p q σ (guard_of x) ≡ say_fork (say_behind q (say_both (say_parts comma say_asking same 4 σ) (λ _. say_mark bar))) (say_mark p) x
 guard_same p q σ (inl (u, (cs, v))) = refl
 guard_same p q σ (inr u) = refl
 
@@ -398,8 +398,8 @@ rule_part ns =
 pub book_exact : (ws : List W) → Exact read_book say_book ws
 unfolding read_book say_book
 book_exact ws = exact
-    (many-good next_rule say_rule (λ ns. (rule_part ns).S) first_rule (λ ns. (rule_part ns).opens) (λ ns. (rule_part ns).starts) read_rule (λ ns. (rule_part ns).good) 32 [])
-    (many-stop next_rule say_rule (λ ns. (rule_part ns).S) first_rule (λ ns. (rule_part ns).opens) [] (λ k m. refl) (λ ns. (rule_part ns).stop) 32 [])
+    (many_good next_rule say_rule (λ ns. (rule_part ns).S) first_rule (λ ns. (rule_part ns).opens) (λ ns. (rule_part ns).starts) read_rule (λ ns. (rule_part ns).good) 32 [])
+    (many_stop next_rule say_rule (λ ns. (rule_part ns).S) first_rule (λ ns. (rule_part ns).opens) [] (λ k m. refl) (λ ns. (rule_part ns).stop) 32 [])
     (many_end next_rule say_rule (λ ns. (rule_part ns).S) first_rule (λ ns. (rule_part ns).opens) [] (λ k m. refl) (λ ns. (rule_part ns).stop) 32 [])
     ws
 
@@ -422,7 +422,7 @@ goal_same (u, (c, (v, w))) = refl
 
 goal_good : Good read_goal say_goal stops_goal
 unfolding read_goal
-goal_good = via_good goal_of of_goal say_goal (λ c. refl) (λ x. refl) goal_same (both-good (mark_good ask) (λ _. both-good (content_part 16 closed).good (λ _. both-good (mark_good dot) (λ _. only_end_good))))
+goal_good = via_good goal_of of_goal say_goal (λ c. refl) (λ x. refl) goal_same (both_good (mark_good ask) (λ _. both_good (content_part 16 closed).good (λ _. both_good (mark_good dot) (λ _. only_end_good))))
 
 goal_stop : (c : Content) (r : List W) → (Fine (say_goal c) → r ≡ []) → stops_goal c r
 unfolding say_goal

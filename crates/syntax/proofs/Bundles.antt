@@ -3,9 +3,9 @@ use Rattle.std.proofs.Common.{◌≡◌, ℕ, zero, suc, Bool, true, false, not,
 use Rattle.std.proofs.lemmas.Bool.{eqb-true, or_cases, or_parts, or_left, or_right, and_parts, not-true, false≢true}
 use Rattle.syntax.specs.Syntax.{W, sign, kind, mem, Note, fine, flaw, Said, front, Fine, Reader, one, nothing, both, ahead, fork, via, spoiled}
 use Rattle.syntax.specs.Good.{Begins, Good}
-use Rattle.syntax.specs.Parts.{last, mark, parts, say-parts}
-use Rattle.syntax.proofs.Laws.{rest_fine, fine_app, say_both, both-good, say_one, one-good, nothing_good, say_fork, stops_fork, fork-good, via_good}
-use Rattle.syntax.proofs.Several.{Stop, Free, Starts, only_self, mark_good, mark_forth, say_mark, begins_app, parts-begin, parts-good, parts-stop}
+use Rattle.syntax.specs.Parts.{last, mark, parts, say_parts}
+use Rattle.syntax.proofs.Laws.{rest_fine, fine_app, say_both, both_good, say_one, one_good, nothing_good, say_fork, stops_fork, fork_good, via_good}
+use Rattle.syntax.proofs.Several.{Stop, Free, Starts, only_self, mark_good, mark_forth, say_mark, begins_app, parts_begin, parts_good, parts_stop}
 
 abbrev pub disjoint : List ℕ → List ℕ → Bool
 disjoint [] ys = true
@@ -68,7 +68,7 @@ pub record Part {X : Type 0} (R : Reader X) (say : X → Said) (ks g : List ℕ)
 pub one_part : {X : Type 0} (ks : List ℕ) (value : W → X) (note : W → Note) (spell : X → W) → X → ((x : X) → value (spell x) ≡ x) → ((x : X) → mem ks (kind (spell x)) ≡ true) → ((w : W) → mem ks (kind w) ≡ true → spell (value w) ≡ w) → Part (one ks value note) (say_one spell note) ks []
 one_part ks value note spell any back kinds forth = record {
   S = λ _ _. Unit {0};
-  good = one-good ks value note spell any back kinds forth;
+  good = one_good ks value note spell any back kinds forth;
   stop = λ x r h. tt;
   opens = kinds;
   starts = λ w m. (value w, note w, [], λ i. (forth w m i, note (forth w m i)) ∷ []);
@@ -88,7 +88,7 @@ module _ {X : Type 0} {Y : X → Type 0} {a : Reader X} {b : (x : X) → Reader 
   pub both_part : {ka ga kb gb : List ℕ} → disjoint kb ga ≡ true → Part a A ka ga → ((x : X) → Part (b x) (B x) kb gb) → Part (both a b) (say_both A B) ka gb
   both_part {ka} {ga} {kb} {gb} d pa pb = record {
     S = _;
-    good = both-good pa.good (λ x. (pb x).good);
+    good = both_good pa.good (λ x. (pb x).good);
     stop = λ z r h. (pa.stop z.0 _ (λ f. subst (Stop ga) (sym (rest_fine (A z.0) (B z.0 z.1) r f)) (stop_begins kb ga (B z.0 z.1) r d ((pb z.0).opens z.1))), λ f. (pb z.0).stop z.1 r (λ e. h (fine_app (A z.0) (B z.0 z.1) f e)));
     opens = λ z. begins_app ka (A z.0) _ (pa.opens z.0);
     starts = λ w m. let s = pa.starts w m in ((s.0, (pb s.0).good.some), s.1, _, ap (λ t. t ++ B s.0 (pb s.0).good.some) s.3);
@@ -97,7 +97,7 @@ module _ {X : Type 0} {Y : X → Type 0} {a : Reader X} {b : (x : X) → Reader 
   pub both_tail : {ka gb : List ℕ} → Part a A ka [] → ((x : X) → Tail (b x) (B x) gb) → Part (both a b) (say_both A B) ka gb
   both_tail {ka} {gb} pa pb = record {
     S = _;
-    good = both-good pa.good (λ x. (pb x).good);
+    good = both_good pa.good (λ x. (pb x).good);
     stop = λ z r h. (pa.stop z.0 _ (λ f. stop_none _), λ f. (pb z.0).stop z.1 r (λ e. h (fine_app (A z.0) (B z.0 z.1) f e)));
     opens = λ z. begins_app ka (A z.0) _ (pa.opens z.0);
     starts = λ w m. let s = pa.starts w m in ((s.0, (pb s.0).good.some), s.1, _, ap (λ t. t ++ B s.0 (pb s.0).good.some) s.3);
@@ -109,7 +109,7 @@ option_stop ks g p (inl x) r h = p.stop x r (λ f. (stop_parts ks g r (h f)).1)
 option_stop ks g p (inr u) r h = (tt, (stop_parts ks g r (h tt)).0)
 
 pub option : {X : Type 0} {R : Reader X} {A : X → Said} {ks g : List ℕ} → Part R A ks g → Tail (fork ks R nothing) (say_fork A (λ _. [])) (ks ++ g)
-option {ks = ks} {g = g} p = record { S = _; good = fork-good ks p.opens p.good nothing_good; stop = option_stop ks g p }
+option {ks = ks} {g = g} p = record { S = _; good = fork_good ks p.opens p.good nothing_good; stop = option_stop ks g p }
 
 -- a part, or else one that may be empty
 module _ {X Y : Type 0} {a : Reader X} {b : Reader Y} {A : X → Said} {B : Y → Said} {ka ga gb : List ℕ} (away : (y : Y) (r : List W) → (Fine (B y) → Stop ka r) → Stop ka (front (B y) r)) (pa : Part a A ka ga) (pb : Tail b B gb) where
@@ -119,7 +119,7 @@ module _ {X Y : Type 0} {a : Reader X} {b : Reader Y} {A : X → Said} {B : Y �
       (pb.stop y r (λ f. (stop_parts ga gb r (stop_parts ka (ga ++ gb) r (h f)).1).1), away y r (λ f. (stop_parts ka (ga ++ gb) r (h f)).0))
 
   pub fork_tail : Tail (fork ka a b) (say_fork A B) (ka ++ (ga ++ gb))
-  fork_tail = record { S = _; good = fork-good ka pa.opens pa.good pb.good; stop = fork_tail_stop }
+  fork_tail = record { S = _; good = fork_good ka pa.opens pa.good pb.good; stop = fork_tail_stop }
 
 -- one of two parts
 module _ {X Y : Type 0} {a : Reader X} {b : Reader Y} {A : X → Said} {B : Y → Said} {ka ga kb gb : List ℕ} (d : disjoint kb ka ≡ true) (pa : Part a A ka ga) (pb : Part b B kb gb) where
@@ -139,7 +139,7 @@ module _ {X Y : Type 0} {a : Reader X} {b : Reader Y} {A : X → Said} {B : Y �
       go (inr h) = let s = pb.starts w h in (inr s.0, s.1, s.2, s.3)
 
   pub fork_part : Part (fork ka a b) (say_fork A B) (ka ++ kb) (ga ++ gb)
-  fork_part = record { S = _; good = fork-good ka pa.opens pa.good pb.good; stop = forked_stop; opens = forked_opens; starts = forked_starts }
+  fork_part = record { S = _; good = fork_good ka pa.opens pa.good pb.good; stop = forked_stop; opens = forked_opens; starts = forked_starts }
 
 -- the same part in another form
 pub via_part : {X Y : Type 0} (f : X → Y) (g : Y → X) (B : Y → Said) {a : Reader X} {A : X → Said} {ks go : List ℕ} → ((y : Y) → f (g y) ≡ y) → ((x : X) → g (f x) ≡ x) → ((x : X) → B (f x) ≡ A x) → Part a A ks go → Part (via f a) B ks go
@@ -174,15 +174,15 @@ kinds_part {A = A} {ks = ks} {ls = ls} e p = record {
 
 -- several parts with a mark between two
 module _ {S X : Type 0} (sep : ℕ) (next : S → X → S) {say : S → X → Said} {ks g : List ℕ} {part : S → Reader X} (clear : mem g (kind (sign sep)) ≡ false) (p : (σ : S) → Part (part σ) (say σ) ks g) where
-  several_starts : (k : ℕ) (σ : S) → Starts ks (say-parts sep say next k σ)
+  several_starts : (k : ℕ) (σ : S) → Starts ks (say_parts sep say next k σ)
   several_starts zero σ w m = let s = (p σ).starts w m in (last s.0, flaw 5, s.2, ap (spoiled 5) s.3)
   several_starts (suc k) σ w m = let s = (p σ).starts w m in (last s.0, s.1, s.2, s.3)
 
-  pub several : (k : ℕ) (σ : S) → Part (parts ks sep part next k σ) (say-parts sep say next k σ) ks (g ++ kind (sign sep) ∷ [])
+  pub several : (k : ℕ) (σ : S) → Part (parts ks sep part next k σ) (say_parts sep say next k σ) ks (g ++ kind (sign sep) ∷ [])
   several k σ = record {
     S = _;
-    good = parts-good sep next say (λ σ. (p σ).S) ks (λ σ. (p σ).opens) (λ σ. (p σ).starts) part (λ σ. (p σ).good) k σ;
-    stop = λ xs r h. parts-stop sep next say (λ σ. (p σ).S) g clear (λ σ. (p σ).stop) k σ xs r (λ f. stop_parts g (kind (sign sep) ∷ []) r (h f));
-    opens = parts-begin sep next say (λ σ. (p σ).S) ks (λ σ. (p σ).opens) k σ;
+    good = parts_good sep next say (λ σ. (p σ).S) ks (λ σ. (p σ).opens) (λ σ. (p σ).starts) part (λ σ. (p σ).good) k σ;
+    stop = λ xs r h. parts_stop sep next say (λ σ. (p σ).S) g clear (λ σ. (p σ).stop) k σ xs r (λ f. stop_parts g (kind (sign sep) ∷ []) r (h f));
+    opens = parts_begin sep next say (λ σ. (p σ).S) ks (λ σ. (p σ).opens) k σ;
     starts = several_starts k σ;
   }

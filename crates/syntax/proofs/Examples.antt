@@ -1,10 +1,10 @@
 -- The examples, computed. Assumes nothing.
 use Rattle.std.proofs.Common.{refl}
-use Rattle.syntax.specs.Readers.{read-arguments, read_items, read_body, read_askings, read_heads, read_book, read_goal}
+use Rattle.syntax.specs.Readers.{read_arguments, read_items, read_body, read_askings, read_heads, read_book, read_goal}
 use Rattle.syntax.specs.Examples.{Examples}
 
 pub examples : Examples
-unfolding read_book read_goal read-arguments read_items read_body read_askings read_heads
+unfolding read_book read_goal read_arguments read_items read_body read_askings read_heads
 examples = record {
   accepted = refl;
   fourth_head = refl;

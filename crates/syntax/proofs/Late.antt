@@ -1,10 +1,10 @@
 -- What the grammar says has faults 5 to 8 only. Assumes nothing.
 use Rattle.std.proofs.Common.{◌≡◌, ℕ, zero, suc, ◌-◌, ◌≤◌, Bool, true, false, cond, ltb, leb, List, [], ◌∷◌, ◌++◌, length, refl, arith}
 use Rattle.syntax.specs.Syntax.{W, name, var, num, weight, sign, Note, fine, flaw, Said, spoiled}
-use Rattle.syntax.specs.Parts.{Some, last, more, say-all, say-parts, list_all, say-many}
+use Rattle.syntax.specs.Parts.{Some, last, more, say_all, say_parts, list_all, say_many}
 use Rattle.syntax.specs.Marks.{comma, semicolon, simplify, simplify_guarded, propagate, propagate_guarded}
 use Rattle.syntax.specs.Tree.{Number, positive, negative, Sum, alone, raised, lowered, Left, number, cell, variable, Right, fixed, summed, Argument, held, valued, Fact, bare, applied, Relation, Telling, Comparison, compared, Item, added, told, failing, Content, nil, items, Alternative, plainly, weighted, Guard, none, guarded, Arrow, propagating, simplifying, simpagating, Label, Rule, rule}
-use Rattle.syntax.specs.Grammar.{Scope, binding, bound, closed, among, var_note, next_left, next_head, next_all, same, seal, scope_of, behind, count, cell_note, weight_note, word_note, label_note, label_word, spelling, say_number, say_cell, say_variable, say_left, say_sum, say_right, say_argument, say-fact, say_head, say_adding, relation_code, telling_code, say_comparison, say_asking, say_telling, say_item, say_content, say_alternative, say_body, say_guard, say_heads, say_arrow, say_rule, next_rule, say_book, say_goal}
+use Rattle.syntax.specs.Grammar.{Scope, binding, bound, closed, among, var_note, next_left, next_head, next_all, same, seal, scope_of, behind, count, cell_note, weight_note, word_note, label_note, label_word, spelling, say_number, say_cell, say_variable, say_left, say_sum, say_right, say_argument, say_fact, say_head, say_adding, relation_code, telling_code, say_comparison, say_asking, say_telling, say_item, say_content, say_alternative, say_body, say_guard, say_heads, say_arrow, say_rule, next_rule, say_book, say_goal}
 use Rattle.syntax.specs.Late.{LateBy, Late, FaultsAreLate}
 
 -- a note of its own
@@ -26,12 +26,12 @@ late_spoiled ((w, fine) ∷ a) h = (omega arith, omega arith, h)
 late_spoiled ((w, flaw n) ∷ a) (p, q, h) = (omega arith, omega arith, h)
 
 module _ {S X : Type 0} (sep : ℕ) (say : S → X → Said) (next : S → X → S) (late : (σ : S) (x : X) → Late (say σ x)) where
-  late_all : (σ : S) (xs : Some X) → Late (say-all sep say next σ xs)
+  late_all : (σ : S) (xs : Some X) → Late (say_all sep say next σ xs)
   late_all σ (last x) = late σ x
   late_all σ (more x xs) = late_app (say σ x) _ (late σ x) (late_all (next σ x) xs)
 
-  late_parts : (k : ℕ) (σ : S) (xs : Some X) → Late (say-parts sep say next k σ xs)
-  late_parts zero σ xs = late_spoiled (say-all sep say next σ xs) (late_all σ xs)
+  late_parts : (k : ℕ) (σ : S) (xs : Some X) → Late (say_parts sep say next k σ xs)
+  late_parts zero σ xs = late_spoiled (say_all sep say next σ xs) (late_all σ xs)
   late_parts (suc k) σ (last x) = late σ x
   late_parts (suc k) σ (more x xs) = late_app (say σ x) _ (late σ x) (late_parts k (next σ x) xs)
 
@@ -40,7 +40,7 @@ module _ {S X : Type 0} (say : S → X → Said) (next : S → X → S) (late : 
   late_list σ [] = tt
   late_list σ (x ∷ xs) = late_app (say σ x) _ (late σ x) (late_list (next σ x) xs)
 
-  late_many : (k : ℕ) (σ : S) (xs : List X) → Late (say-many say next k σ xs)
+  late_many : (k : ℕ) (σ : S) (xs : List X) → Late (say_many say next k σ xs)
   late_many zero σ xs = late_spoiled (list_all say next σ xs) (late_list σ xs)
   late_many (suc k) σ [] = tt
   late_many (suc k) σ (x ∷ xs) = late_app (say σ x) _ (late σ x) (late_many k (next σ x) xs)
@@ -92,9 +92,9 @@ late_argument : (σ : Scope) (a : Argument) → Late (say_argument σ a)
 late_argument σ (held k) = late_cell k
 late_argument σ (valued r) = late_right σ r
 
-late_fact : {A : Type 0} (say : Scope → A → Said) (next : Scope → A → Scope) → ((σ : Scope) (a : A) → Late (say σ a)) → (σ : Scope) (f : Fact A) → Late (say-fact say next σ f)
+late_fact : {A : Type 0} (say : Scope → A → Said) (next : Scope → A → Scope) → ((σ : Scope) (a : A) → Late (say σ a)) → (σ : Scope) (f : Fact A) → Late (say_fact say next σ f)
 late_fact say next late σ (bare p n) = tt
-late_fact say next late σ (applied p n xs) = late_app (say-parts comma say next 3 σ xs) _ (late_parts comma say next late 3 σ xs) tt
+late_fact say next late σ (applied p n xs) = late_app (say_parts comma say next 3 σ xs) _ (late_parts comma say next late 3 σ xs) tt
 
 late_head : (σ : Scope) (f : Fact Left) → Late (say_head σ f)
 late_head = late_fact say_left next_left late_left
@@ -117,7 +117,7 @@ late_alternative σ (weighted n c) = late_cons (cond (leb n 1000) fine (flaw 5))
 
 late_guard : (p q : ℕ) (σ : Scope) (g : Guard) → Late (say_guard p q σ g)
 late_guard p q σ none = tt
-late_guard p q σ (guarded cs) = late_app (say-parts comma say_asking same 4 σ cs) _ (late_parts comma say_asking same (late_comparison relation_code) 4 σ cs) tt
+late_guard p q σ (guarded cs) = late_app (say_parts comma say_asking same 4 σ cs) _ (late_parts comma say_asking same (late_comparison relation_code) 4 σ cs) tt
 
 late_arrow : (hs : Some (Fact Left)) (a : Arrow) → Late (say_arrow hs a)
 late_arrow hs (propagating g) = late_guard propagate propagate_guarded (seal (scope_of hs)) g

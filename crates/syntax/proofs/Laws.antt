@@ -106,9 +106,9 @@ module _ {X : Type 0} {Y : X → Type 0} {a : Reader X} {b : (x : X) → Reader 
     next : (x : X) → List W → Out ((x : X) × Y x)
     next x r = mapped (λ y. (x, y)) (b x r)
 
-    both-reads : (z : (x : X) × Y x) (r : List W) → stops_both A B SA SB z r → both a b (front (say_both A B z) r) ≡ verdict (say_both A B z) r (ok z r)
+    both_reads : (z : (x : X) × Y x) (r : List W) → stops_both A B SA SB z r → both a b (front (say_both A B z) r) ≡ verdict (say_both A B z) r (ok z r)
     unfolding next
-    both-reads (x, y) r (sa, sb) =
+    both_reads (x, y) r (sa, sb) =
         let t : List W = rest (A x) (B x y) r in
         ap (both a b) (front_app (A x) (B x y) r)
         ∙ ap (λ o. after o next) (ga.reads x t sa)
@@ -119,13 +119,13 @@ module _ {X : Type 0} {Y : X → Type 0} {a : Reader X} {b : (x : X) → Reader 
         ∙ mapped_verdict (λ y. (x, y)) (B x y) r (ok y r))
         ∙ sym (verdict_app (A x) (B x y) r (ok (x, y) r))
 
-    both-second : (ws : List W) (x : X) (r : List W) → Fine (A x) → ws ≡ front (A x) r → SA x r → (o : Out (Y x)) → Honest (b x) (B x) (SB x) r o → Honest (both a b) (say_both A B) (stops_both A B SA SB) ws (mapped (λ y. (x, y)) o)
+    both_second : (ws : List W) (x : X) (r : List W) → Fine (A x) → ws ≡ front (A x) r → SA x r → (o : Out (Y x)) → Honest (b x) (B x) (SB x) r o → Honest (both a b) (say_both A B) (stops_both A B SA SB) ws (mapped (λ y. (x, y)) o)
     unfolding next
-    both-second ws x r f e s (ok y t) (g, h, u) =
+    both_second ws x r f e s (ok y t) (g, h, u) =
         (fine_app (A x) (B x y) f g, e ∙ ap (front (A x)) (h ∙ sym (rest_fine (A x) (B x y) t f)) ∙ sym (front_app (A x) (B x y) t), (subst (SA x) (h ∙ sym (rest_fine (A x) (B x y) t f)) s, λ _. u))
-    both-second ws x r f e s (flawed n w t) (y, g, h) =
+    both_second ws x r f e s (flawed n w t) (y, g, h) =
         ((x, y), flawed_after (A x) (B x y) n w f g, e ∙ ap (front (A x)) (h ∙ sym (rest_fine (A x) (B x y) t f)) ∙ sym (front_app (A x) (B x y) t))
-    both-second ws x r f e s (barred t) (y, p, q, d, g, h, loc) = (
+    both_second ws x r f e s (barred t) (y, p, q, d, g, h, loc) = (
       (x, y),
       A x ++ p,
       q,
@@ -140,7 +140,7 @@ module _ {X : Type 0} {Y : X → Type 0} {a : Reader X} {b : (x : X) → Reader 
 
     both_first : (ws : List W) (o : Out X) → Honest a A SA ws o → Honest (both a b) (say_both A B) (stops_both A B SA SB) ws (after o next)
     unfolding next
-    both_first ws (ok x r) (f, e, s) = both-second ws x r f e s (b x r) ((gb x).honest r)
+    both_first ws (ok x r) (f, e, s) = both_second ws x r f e s (b x r) ((gb x).honest r)
     both_first ws (flawed n w r) (x, f, e) =
         let y : Y x = (gb x).some in
         ((x, y), flawed_app (A x) (B x y) n w f, e ∙ ap (front (A x)) (sym (rest_flawed (A x) (B x y) r n w f)) ∙ sym (front_app (A x) (B x y) r))
@@ -148,12 +148,12 @@ module _ {X : Type 0} {Y : X → Type 0} {a : Reader X} {b : (x : X) → Reader 
         let y : Y x = (gb x).some in
         ((x, y), p, q ++ B x y, ap (λ z. z ++ B x y) d ∙ app_assoc p q (B x y), f, e, λ u k. ap (λ o. after o next) (loc u k))
 
-    pub both-good : Good (both a b) (say_both A B) (stops_both A B SA SB)
+    pub both_good : Good (both a b) (say_both A B) (stops_both A B SA SB)
     unfolding next
-    both-good = record {
+    both_good = record {
       some = (ga.some, (gb ga.some).some);
       keeps = λ z r u h s. (ga.keeps z.0 _ _ (agree_rest (A z.0) (B z.0 z.1) r u h) s.0, λ f. (gb z.0).keeps z.1 r u h (s.1 f));
-      reads = both-reads;
+      reads = both_reads;
       honest = λ ws. both_first ws (a ws) (ga.honest ws);
     }
 
@@ -171,20 +171,20 @@ module _ {X : Type 0} (ks : List ℕ) (value : W → X) (note : W → Note) (spe
     one_word w r fine m e = (subst (λ v. FineBy v (Unit {0})) (sym (ap note (forth w m) ∙ e)) tt, ap (λ v. v ∷ r) (sym (forth w m)) ∙ ap (λ n. spell (value w) ∷ front_by n r r) (sym (ap note (forth w m) ∙ e)), tt)
     one_word w r (flaw n) m e = (value w, subst (λ v. FlawedBy v n w (spell (value w)) ⊥) (sym (ap note (forth w m) ∙ e)) (refl, forth w m), ap (λ v. v ∷ r) (sym (forth w m)) ∙ ap (λ n. spell (value w) ∷ front_by n r r) (sym (ap note (forth w m) ∙ e)))
 
-    one-honest : (ws : List W) → Honest (one ks value note) (say_one spell note) (λ _ _. Unit {0}) ws (one ks value note ws)
-    one-honest [] = (any, [], (say_one spell note) any, refl, tt, refl, λ u e. ap (one ks value note) e ∙ ap barred (sym e))
-    one-honest (w ∷ r) = go (mem ks (kind w)) refl
+    one_honest : (ws : List W) → Honest (one ks value note) (say_one spell note) (λ _ _. Unit {0}) ws (one ks value note ws)
+    one_honest [] = (any, [], (say_one spell note) any, refl, tt, refl, λ u e. ap (one ks value note) e ∙ ap barred (sym e))
+    one_honest (w ∷ r) = go (mem ks (kind w)) refl
       where
         go : (t : Bool) → mem ks (kind w) ≡ t → Honest (one ks value note) (say_one spell note) (λ _ _. Unit {0}) (w ∷ r) (cond t (noted (note w) (value w) w r) (barred (w ∷ r)))
         go true m = one_word w r (note w) m refl
         go false m = (any, [], (say_one spell note) any, refl, tt, refl, λ u e. ap (one ks value note) e.1 ∙ cond-false (mem ks (kind w)) _ _ m ∙ ap barred (sym e.1))
 
-    pub one-good : Good (one ks value note) (say_one spell note) (λ _ _. Unit {0})
-    one-good = record {
+    pub one_good : Good (one ks value note) (say_one spell note) (λ _ _. Unit {0})
+    one_good = record {
       some = any;
       keeps = λ x r u h s. tt;
       reads = λ x r s. cond-true (mem ks (kind (spell x))) _ _ (kinds x) ∙ ap (λ v. noted (note (spell x)) v (spell x) (front_by (note (spell x)) r r)) (back x) ∙ one_noted (note (spell x)) x (spell x) r;
-      honest = one-honest;
+      honest = one_honest;
     }
 
 -- nothing
@@ -202,35 +202,35 @@ stops_fork ks B SA SB (inr y) r = SB y r × (ahead ks (front (B y) r) ≡ false)
 
 module _ {X Y : Type 0} (ks : List ℕ) {a : Reader X} {b : Reader Y} {A : X → Said} {B : Y → Said} {SA : X → List W → Type 0} {SB : Y → List W → Type 0} where
   module _ (opens : (x : X) → Begins ks (A x)) (ga : Good a A SA) (gb : Good b B SB) where
-    fork-keeps : (z : X ⊎ Y) (r u : List W) → Agree r u → (stops_fork ks B SA SB) z r → (stops_fork ks B SA SB) z u
-    fork-keeps (inl x) r u h s = ga.keeps x r u h s
-    fork-keeps (inr y) r u h s = (gb.keeps y r u h s.0, agree_ahead ks (front (B y) r) (front (B y) u) (agree_front (B y) r u h) ∙ s.1)
+    fork_keeps : (z : X ⊎ Y) (r u : List W) → Agree r u → (stops_fork ks B SA SB) z r → (stops_fork ks B SA SB) z u
+    fork_keeps (inl x) r u h s = ga.keeps x r u h s
+    fork_keeps (inr y) r u h s = (gb.keeps y r u h s.0, agree_ahead ks (front (B y) r) (front (B y) u) (agree_front (B y) r u h) ∙ s.1)
 
-    fork-reads : (z : X ⊎ Y) (r : List W) → (stops_fork ks B SA SB) z r → fork ks a b (front (say_fork A B z) r) ≡ verdict (say_fork A B z) r (ok z r)
-    fork-reads (inl x) r s = cond-true (ahead ks (front (A x) r)) _ _ (begins_ahead ks (A x) r (opens x)) ∙ ap (mapped inl) (ga.reads x r s) ∙ mapped_verdict inl (A x) r (ok x r)
-    fork-reads (inr y) r s = cond-false (ahead ks (front (B y) r)) _ _ s.1 ∙ ap (mapped inr) (gb.reads y r s.0) ∙ mapped_verdict inr (B y) r (ok y r)
+    fork_reads : (z : X ⊎ Y) (r : List W) → (stops_fork ks B SA SB) z r → fork ks a b (front (say_fork A B z) r) ≡ verdict (say_fork A B z) r (ok z r)
+    fork_reads (inl x) r s = cond-true (ahead ks (front (A x) r)) _ _ (begins_ahead ks (A x) r (opens x)) ∙ ap (mapped inl) (ga.reads x r s) ∙ mapped_verdict inl (A x) r (ok x r)
+    fork_reads (inr y) r s = cond-false (ahead ks (front (B y) r)) _ _ s.1 ∙ ap (mapped inr) (gb.reads y r s.0) ∙ mapped_verdict inr (B y) r (ok y r)
 
-    fork-left : (ws : List W) (o : Out X) → ahead ks ws ≡ true → Honest a A SA ws o → Honest (fork ks a b) (say_fork A B) (stops_fork ks B SA SB) ws (mapped inl o)
-    fork-left ws (ok x r) m h = h
-    fork-left ws (flawed n w r) m (x, f, e) = (inl x, f, e)
-    fork-left ws (barred r) m (x, p, q, d, f, e, loc) =
+    fork_left : (ws : List W) (o : Out X) → ahead ks ws ≡ true → Honest a A SA ws o → Honest (fork ks a b) (say_fork A B) (stops_fork ks B SA SB) ws (mapped inl o)
+    fork_left ws (ok x r) m h = h
+    fork_left ws (flawed n w r) m (x, f, e) = (inl x, f, e)
+    fork_left ws (barred r) m (x, p, q, d, f, e, loc) =
         (inl x, p, q, d, f, e, λ u k. cond-true (ahead ks (front p u)) _ _ (agree_ahead ks (front p r) (front p u) (agree_front p r u k) ∙ ap (ahead ks) (sym e) ∙ m) ∙ ap (mapped inl) (loc u k))
 
-    fork-right : (ws : List W) (o : Out Y) → ahead ks ws ≡ false → Honest b B SB ws o → Honest (fork ks a b) (say_fork A B) (stops_fork ks B SA SB) ws (mapped inr o)
-    fork-right ws (ok y r) m (f, e, s) = (f, e, (s, ap (ahead ks) (sym e) ∙ m))
-    fork-right ws (flawed n w r) m (y, f, e) = (inr y, f, e)
-    fork-right ws (barred r) m (y, p, q, d, f, e, loc) =
+    fork_right : (ws : List W) (o : Out Y) → ahead ks ws ≡ false → Honest b B SB ws o → Honest (fork ks a b) (say_fork A B) (stops_fork ks B SA SB) ws (mapped inr o)
+    fork_right ws (ok y r) m (f, e, s) = (f, e, (s, ap (ahead ks) (sym e) ∙ m))
+    fork_right ws (flawed n w r) m (y, f, e) = (inr y, f, e)
+    fork_right ws (barred r) m (y, p, q, d, f, e, loc) =
         (inr y, p, q, d, f, e, λ u k. cond-false (ahead ks (front p u)) _ _ (agree_ahead ks (front p r) (front p u) (agree_front p r u k) ∙ ap (ahead ks) (sym e) ∙ m) ∙ ap (mapped inr) (loc u k))
 
-    fork-honest : (ws : List W) → Honest (fork ks a b) (say_fork A B) (stops_fork ks B SA SB) ws (fork ks a b ws)
-    fork-honest ws = go (ahead ks ws) refl
+    fork_honest : (ws : List W) → Honest (fork ks a b) (say_fork A B) (stops_fork ks B SA SB) ws (fork ks a b ws)
+    fork_honest ws = go (ahead ks ws) refl
       where
         go : (t : Bool) → ahead ks ws ≡ t → Honest (fork ks a b) (say_fork A B) (stops_fork ks B SA SB) ws (cond t (mapped inl (a ws)) (mapped inr (b ws)))
-        go true m = fork-left ws (a ws) m (ga.honest ws)
-        go false m = fork-right ws (b ws) m (gb.honest ws)
+        go true m = fork_left ws (a ws) m (ga.honest ws)
+        go false m = fork_right ws (b ws) m (gb.honest ws)
 
-    pub fork-good : Good (fork ks a b) (say_fork A B) (stops_fork ks B SA SB)
-    fork-good = record { some = inr gb.some; keeps = fork-keeps; reads = fork-reads; honest = fork-honest }
+    pub fork_good : Good (fork ks a b) (say_fork A B) (stops_fork ks B SA SB)
+    fork_good = record { some = inr gb.some; keeps = fork_keeps; reads = fork_reads; honest = fork_honest }
 
 -- the end, or a part
 abbrev pub say_ended : {X : Type 0} → (X → Said) → X ⊎ Unit {0} → Said
@@ -251,33 +251,33 @@ agree_end (w ∷ r) u h e = absurd (subst Filled e tt)
 
 module _ {X : Type 0} {a : Reader X} {A : X → Said} {SA : X → List W → Type 0} where
   module _ (ks : List ℕ) (opens : (x : X) → Begins ks (A x)) (ga : Good a A SA) where
-    ended-keeps : (z : X ⊎ Unit {0}) (r u : List W) → Agree r u → (stops_ended SA) z r → (stops_ended SA) z u
-    ended-keeps (inl x) r u h s = ga.keeps x r u h s
-    ended-keeps (inr y) r u h s = agree_end r u h s
+    ended_keeps : (z : X ⊎ Unit {0}) (r u : List W) → Agree r u → (stops_ended SA) z r → (stops_ended SA) z u
+    ended_keeps (inl x) r u h s = ga.keeps x r u h s
+    ended_keeps (inr y) r u h s = agree_end r u h s
 
     ended_some : (s : Said) (r : List W) → Begins ks s → ended a (front s r) ≡ mapped inl (a (front s r))
     ended_some [] r h = absurd h
     ended_some (x ∷ s) r h = refl
 
-    ended-reads : (z : X ⊎ Unit {0}) (r : List W) → (stops_ended SA) z r → ended a (front ((say_ended A) z) r) ≡ verdict ((say_ended A) z) r (ok z r)
-    ended-reads (inl x) r s = ended_some (A x) r (opens x) ∙ ap (mapped inl) (ga.reads x r s) ∙ mapped_verdict inl (A x) r (ok x r)
-    ended-reads (inr tt) r s = ap (ended a) s ∙ ap (ok (inr tt)) (sym s)
+    ended_reads : (z : X ⊎ Unit {0}) (r : List W) → (stops_ended SA) z r → ended a (front ((say_ended A) z) r) ≡ verdict ((say_ended A) z) r (ok z r)
+    ended_reads (inl x) r s = ended_some (A x) r (opens x) ∙ ap (mapped inl) (ga.reads x r s) ∙ mapped_verdict inl (A x) r (ok x r)
+    ended_reads (inr tt) r s = ap (ended a) s ∙ ap (ok (inr tt)) (sym s)
 
-    ended-part : (w : W) (t : List W) (o : Out X) → Honest a A SA (w ∷ t) o → Honest (ended a) (say_ended A) (stops_ended SA) (w ∷ t) (mapped inl o)
-    ended-part w t (ok x r) h = h
-    ended-part w t (flawed n v r) (x, f, e) = (inl x, f, e)
-    ended-part w t (barred r) (x, p, q, d, f, e, loc) =
+    ended_part : (w : W) (t : List W) (o : Out X) → Honest a A SA (w ∷ t) o → Honest (ended a) (say_ended A) (stops_ended SA) (w ∷ t) (mapped inl o)
+    ended_part w t (ok x r) h = h
+    ended_part w t (flawed n v r) (x, f, e) = (inl x, f, e)
+    ended_part w t (barred r) (x, p, q, d, f, e, loc) =
         (inl x, p, q, d, f, e, λ u k. go (front p r) (front p u) e (agree_front p r u k) ∙ ap (mapped inl) (loc u k))
       where
         go : (r u : List W) → w ∷ t ≡ r → Agree r u → ended a u ≡ mapped inl (a u)
         go r u e k = let v = subst (λ z. Agree z u) (sym e) k in ap (ended a) v.1 ∙ ap (λ z. mapped inl (a z)) (sym v.1)
 
-    ended-honest : (ws : List W) → Honest (ended a) (say_ended A) (stops_ended SA) ws (ended a ws)
-    ended-honest [] = (tt, refl, refl)
-    ended-honest (w ∷ t) = ended-part w t (a (w ∷ t)) (ga.honest (w ∷ t))
+    ended_honest : (ws : List W) → Honest (ended a) (say_ended A) (stops_ended SA) ws (ended a ws)
+    ended_honest [] = (tt, refl, refl)
+    ended_honest (w ∷ t) = ended_part w t (a (w ∷ t)) (ga.honest (w ∷ t))
 
-    pub ended-good : Good (ended a) (say_ended A) (stops_ended SA)
-    ended-good = record { some = inr tt; keeps = ended-keeps; reads = ended-reads; honest = ended-honest }
+    pub ended_good : Good (ended a) (say_ended A) (stops_ended SA)
+    ended_good = record { some = inr tt; keeps = ended_keeps; reads = ended_reads; honest = ended_honest }
 
 -- the end of the words
 only_end_honest : (ws : List W) → Honest only_end (λ _. []) (λ _ r. r ≡ []) ws (only_end ws)
@@ -289,24 +289,24 @@ only_end_good = record { some = tt; keeps = λ x r u h s. agree_end r u h s; rea
 
 -- one part too many
 module _ {X : Type 0} (ks : List ℕ) (n : ℕ) (A : X → Said) where
-  abbrev pub say-over : X → Said
-  say-over x = spoiled n (A x)
+  abbrev pub say_over : X → Said
+  say_over x = spoiled n (A x)
 
   module _ (any : X) (opens : (x : X) → Begins ks (A x)) (starts : (w : W) → mem ks (kind w) ≡ true → (x : X) × (m : Note) × (s : Said) × (A x ≡ (w, m) ∷ s)) where
     over_reads : (x : X) (s : Said) (r : List W) → Begins ks s → over ks n (front (spoiled n s) r) ≡ verdict (spoiled n s) r (ok x r)
     over_reads x [] r h = absurd h
     over_reads x (y ∷ s) r h = cond-true (mem ks (kind y.0)) _ _ h
 
-    over-honest : (ws : List W) → Honest {X = X} (over ks n) say-over (λ _ _. Unit {0}) ws (over ks n ws)
-    over-honest [] = (any, [], say-over any, refl, tt, refl, λ u e. ap (over ks n) e ∙ ap barred (sym e))
-    over-honest (w ∷ r) = go (mem ks (kind w)) refl
+    over_honest : (ws : List W) → Honest {X = X} (over ks n) say_over (λ _ _. Unit {0}) ws (over ks n ws)
+    over_honest [] = (any, [], say_over any, refl, tt, refl, λ u e. ap (over ks n) e ∙ ap barred (sym e))
+    over_honest (w ∷ r) = go (mem ks (kind w)) refl
       where
-        go : (t : Bool) → mem ks (kind w) ≡ t → Honest {X = X} (over ks n) say-over (λ _ _. Unit {0}) (w ∷ r) (cond t (flawed n w r) (barred (w ∷ r)))
+        go : (t : Bool) → mem ks (kind w) ≡ t → Honest {X = X} (over ks n) say_over (λ _ _. Unit {0}) (w ∷ r) (cond t (flawed n w r) (barred (w ∷ r)))
         go true m = let b = starts w m in (b.0, subst (λ s. Flawed n w (spoiled n s)) (sym b.3) (refl, refl), ap (λ s. front (spoiled n s) r) (sym b.3))
-        go false m = (any, [], say-over any, refl, tt, refl, λ u e. ap (over ks n) e.1 ∙ cond-false (mem ks (kind w)) _ _ m ∙ ap barred (sym e.1))
+        go false m = (any, [], say_over any, refl, tt, refl, λ u e. ap (over ks n) e.1 ∙ cond-false (mem ks (kind w)) _ _ m ∙ ap barred (sym e.1))
 
-    pub over-good : Good {X = X} (over ks n) say-over (λ _ _. Unit {0})
-    over-good = record { some = any; keeps = λ x r u h s. tt; reads = λ x r s. over_reads x (A x) r (opens x); honest = over-honest }
+    pub over_good : Good {X = X} (over ks n) say_over (λ _ _. Unit {0})
+    over_good = record { some = any; keeps = λ x r u h s. tt; reads = λ x r s. over_reads x (A x) r (opens x); honest = over_honest }
 
 -- the same part in another form
 module _ {X Y : Type 0} (f : X → Y) (g : Y → X) (B : Y → Said) {a : Reader X} {A : X → Said} {SA : X → List W → Type 0} (fg : (y : Y) → f (g y) ≡ y) (gf : (x : X) → g (f x) ≡ x) (same : (x : X) → B (f x) ≡ A x) (ga : Good a A SA) where

@@ -3,12 +3,12 @@ use Rattle.std.proofs.Common.{◌≡◌, ℕ, zero, suc, ◌-◌, ◌≤◌, Boo
 use Rattle.std.proofs.lemmas.Bool.{leb-true, le-leb}
 use Rattle.syntax.specs.Syntax.{sign, fine, flaw, Said, Fine, FineBy, spoiled}
 use Rattle.syntax.specs.Good.{Begins}
-use Rattle.syntax.specs.Parts.{Some, last, more, say-all, say-parts, list_all, say-many}
+use Rattle.syntax.specs.Parts.{Some, last, more, say_all, say_parts, list_all, say_many}
 use Rattle.syntax.specs.Marks.{comma, dot, semicolon, bar, close_mark, simplify, simplify_guarded, propagate, propagate_guarded}
 use Rattle.syntax.specs.Tree.{Number, positive, negative, Sum, alone, raised, lowered, Left, number, cell, variable, Right, fixed, summed, Argument, held, valued, Fact, bare, applied, Comparison, compared, Item, added, told, failing, Content, nil, items, Alternative, plainly, weighted, Guard, none, guarded, Arrow, propagating, simplifying, simpagating, Label, named, named_true, named_fail, Rule, rule}
 use Rattle.syntax.specs.Grammar.{Scope, binding, bound, closed, among, next_left, next_head, same, seal, scope_of, next_all, behind, count, label_name, label_word, label_note, spelling, next_rule, relation_code, telling_code, say_number, say_cell, say_variable, say_left, say_sum, say_right, say_argument, say_head, say_adding, say_comparison, say_asking, say_item, say_content, say_alternative, say_body, say_guard, say_heads, say_arrow, say_rule, say_book, say_goal}
 use Rattle.syntax.specs.Readers.{name_kind, first_left, first_item, first_alternative, first_rule}
-use Rattle.syntax.specs.Limits.{In, Differ, Each, AtMost, gathered, left_variables, head_variables, arrow_variables, rule_variables, Left-kept, Right-kept, Argument-kept, Comparison-kept, FactKept, Item-kept, Content-kept, Alternative-kept, Guard-kept, HeadKept, HeadsKept, arrow_guard, RuleKept, rule_name, names, RulesKept, BookKept, GoalKept}
+use Rattle.syntax.specs.Limits.{In, Differ, Each, AtMost, gathered, left_variables, head_variables, arrow_variables, rule_variables, LeftKept, RightKept, ArgumentKept, ComparisonKept, FactKept, ItemKept, ContentKept, AlternativeKept, GuardKept, HeadKept, HeadsKept, arrow_guard, RuleKept, rule_name, names, RulesKept, BookKept, GoalKept}
 use Rattle.syntax.specs.Claims.{LimitsExactly}
 use Rattle.syntax.proofs.Laws.{fine_app, fine_parts}
 use Rattle.syntax.proofs.Several.{begins_app}
@@ -49,19 +49,19 @@ count_some (last x) = omega arith
 count_some (more x xs) = omega arith
 
 module _ {S X : Type 0} (sep : ℕ) (say : S → X → Said) (next : S → X → S) (ks : List ℕ) (opens : (σ : S) (x : X) → Begins ks (say σ x)) where
-  all_opens : (σ : S) (xs : Some X) → Begins ks (say-all sep say next σ xs)
+  all_opens : (σ : S) (xs : Some X) → Begins ks (say_all sep say next σ xs)
   all_opens σ (last x) = opens σ x
   all_opens σ (more x xs) = begins_app ks (say σ x) _ (opens σ x)
 
-  parts_forth : (k : ℕ) (σ : S) (xs : Some X) → Fine (say-parts sep say next k σ xs) → (count xs ≤ k) × FineAll say next σ xs
-  parts_forth zero σ xs f = absurd (spoiled_bad ks 5 (say-all sep say next σ xs) (all_opens σ xs) f)
+  parts_forth : (k : ℕ) (σ : S) (xs : Some X) → Fine (say_parts sep say next k σ xs) → (count xs ≤ k) × FineAll say next σ xs
+  parts_forth zero σ xs f = absurd (spoiled_bad ks 5 (say_all sep say next σ xs) (all_opens σ xs) f)
   parts_forth (suc k) σ (last x) f = (omega arith, f)
   parts_forth (suc k) σ (more x xs) f =
       let (a, b) = fine_parts (say σ x) _ f in
       let (c, d) = parts_forth k (next σ x) xs b in
       (omega (arith, c), (a, d))
 
-  parts_back : (k : ℕ) (σ : S) (xs : Some X) → count xs ≤ k → FineAll say next σ xs → Fine (say-parts sep say next k σ xs)
+  parts_back : (k : ℕ) (σ : S) (xs : Some X) → count xs ≤ k → FineAll say next σ xs → Fine (say_parts sep say next k σ xs)
   parts_back zero σ xs h f = let e = count_some xs in absurd (omega (arith, h, e))
   parts_back (suc k) σ (last x) h f = f
   parts_back (suc k) σ (more x xs) h (f, g) = fine_app (say σ x) _ f (parts_back k (next σ x) xs (omega (arith, h)) g)
@@ -75,58 +75,58 @@ module _ {S X : Type 0} (say : S → X → Said) (σ : S) (P : X → Type 0) (e 
   each_back (last x) p = (e x).1 p
   each_back (more x xs) (p, q) = ((e x).1 p, each_back xs q)
 
-  several_fine : (sep : ℕ) (ks : List ℕ) → ((σ : S) (x : X) → Begins ks (say σ x)) → (k : ℕ) (xs : Some X) → Fine (say-parts sep say same k σ xs) ↔ AtMost k P xs
+  several_fine : (sep : ℕ) (ks : List ℕ) → ((σ : S) (x : X) → Begins ks (say σ x)) → (k : ℕ) (xs : Some X) → Fine (say_parts sep say same k σ xs) ↔ AtMost k P xs
   several_fine sep ks opens k xs =
       ((λ f. let (c, d) = parts_forth sep say same ks opens k σ xs f in (c, each_forth xs d)), (λ (c, d). parts_back sep say same ks opens k σ xs c (each_back xs d)))
 
 -- parts behind the arrow, and of goals
 module _ (σ : Scope) (known : List ℕ → Type 0) (k : (v : List ℕ) → Fine (say_variable σ v) ↔ known v) where
-  left_fine : (l : Left) → Fine (say_left σ l) ↔ Left-kept known l
+  left_fine : (l : Left) → Fine (say_left σ l) ↔ LeftKept known l
   left_fine (number n) = ((λ f. tt), (λ u. number_fine n))
   left_fine (cell c) = cell_fine c
   left_fine (variable v) = k v
 
-  right_fine : (r : Right) → Fine (say_right σ r) ↔ Right-kept known r
+  right_fine : (r : Right) → Fine (say_right σ r) ↔ RightKept known r
   right_fine (fixed n) = ((λ f. tt), (λ u. number_fine n))
   right_fine (summed v s) = ((λ f. (k v).0 (fine_parts (say_variable σ v) (say_sum s) f).0), (λ h. fine_app (say_variable σ v) (say_sum s) ((k v).1 h) (sum_fine s)))
 
-  argument_fine : (a : Argument) → Fine (say_argument σ a) ↔ Argument-kept known a
+  argument_fine : (a : Argument) → Fine (say_argument σ a) ↔ ArgumentKept known a
   argument_fine (held c) = cell_fine c
   argument_fine (valued r) = right_fine r
 
-  comparison_fine : {R : Type 0} (code : R → ℕ) (c : Comparison R) → Fine (say_comparison code σ c) ↔ Comparison-kept known c
+  comparison_fine : {R : Type 0} (code : R → ℕ) (c : Comparison R) → Fine (say_comparison code σ c) ↔ ComparisonKept known c
   comparison_fine code (compared l c r) =
       ((λ f. let (a, b) = fine_parts (say_left σ l) _ f in ((left_fine l).0 a, (right_fine r).0 b)), (λ (a, b). fine_app (say_left σ l) _ ((left_fine l).1 a) ((right_fine r).1 b)))
 
-  adding_fine : (f : Fact Argument) → Fine (say_adding σ f) ↔ FactKept (Argument-kept known) f
+  adding_fine : (f : Fact Argument) → Fine (say_adding σ f) ↔ FactKept (ArgumentKept known) f
   adding_fine (bare p n) = ((λ f. tt), (λ u. tt))
   adding_fine (applied p n xs) =
-      let e = several_fine say_argument σ (Argument-kept known) argument_fine comma first_left (λ σ. (argument_part σ).opens) 3 xs in
-      ((λ f. e.0 (fine_parts (say-parts comma say_argument same 3 σ xs) _ f).0), (λ h. fine_app (say-parts comma say_argument same 3 σ xs) _ (e.1 h) tt))
+      let e = several_fine say_argument σ (ArgumentKept known) argument_fine comma first_left (λ σ. (argument_part σ).opens) 3 xs in
+      ((λ f. e.0 (fine_parts (say_parts comma say_argument same 3 σ xs) _ f).0), (λ h. fine_app (say_parts comma say_argument same 3 σ xs) _ (e.1 h) tt))
 
-  item_fine : (i : Item) → Fine (say_item σ i) ↔ Item-kept known i
+  item_fine : (i : Item) → Fine (say_item σ i) ↔ ItemKept known i
   item_fine (added f) = adding_fine f
   item_fine (told c) = comparison_fine telling_code c
   item_fine failing = ((λ f. tt), (λ u. tt))
 
-  content_fine : (most : ℕ) (c : Content) → Fine (say_content most σ c) ↔ Content-kept known most c
+  content_fine : (most : ℕ) (c : Content) → Fine (say_content most σ c) ↔ ContentKept known most c
   content_fine most nil = ((λ f. tt), (λ u. tt))
-  content_fine most (items is) = several_fine say_item σ (Item-kept known) item_fine comma first_item (λ σ. (item_part σ).opens) most is
+  content_fine most (items is) = several_fine say_item σ (ItemKept known) item_fine comma first_item (λ σ. (item_part σ).opens) most is
 
-  alternative_fine : (a : Alternative) → Fine (say_alternative σ a) ↔ Alternative-kept known a
+  alternative_fine : (a : Alternative) → Fine (say_alternative σ a) ↔ AlternativeKept known a
   alternative_fine (plainly c) = content_fine 8 c
   alternative_fine (weighted n c) =
       let e = test_fine n 1000 5 (Fine (say_content 8 σ c)) in
       ((λ f. let (a, b) = e.0 f in (a, (content_fine 8 c).0 b)), (λ (a, b). e.1 (a, (content_fine 8 c).1 b)))
 
-  body_fine : (b : Some Alternative) → Fine (say_body σ b) ↔ AtMost 8 (Alternative-kept known) b
-  body_fine = several_fine say_alternative σ (Alternative-kept known) alternative_fine semicolon first_alternative (λ σ. (alternative_part σ).opens) 8
+  body_fine : (b : Some Alternative) → Fine (say_body σ b) ↔ AtMost 8 (AlternativeKept known) b
+  body_fine = several_fine say_alternative σ (AlternativeKept known) alternative_fine semicolon first_alternative (λ σ. (alternative_part σ).opens) 8
 
-  guard_fine : (p q : ℕ) (g : Guard) → Fine (say_guard p q σ g) ↔ Guard-kept known g
+  guard_fine : (p q : ℕ) (g : Guard) → Fine (say_guard p q σ g) ↔ GuardKept known g
   guard_fine p q none = ((λ f. tt), (λ u. tt))
   guard_fine p q (guarded cs) =
-      let said : Said = say-parts comma say_asking same 4 σ cs in
-      let e = several_fine say_asking σ (Comparison-kept known) (comparison_fine relation_code) comma first_left (λ σ. (asking_part σ).opens) 4 cs in
+      let said : Said = say_parts comma say_asking same 4 σ cs in
+      let e = several_fine say_asking σ (ComparisonKept known) (comparison_fine relation_code) comma first_left (λ σ. (asking_part σ).opens) 4 cs in
       ((λ f. e.0 (fine_parts said ((sign bar, fine) ∷ []) f).0), (λ h. fine_app said ((sign bar, fine) ∷ []) (e.1 h) tt))
 
 goal_fine : (c : Content) → Fine (say_goal c) ↔ GoalKept c
@@ -159,20 +159,20 @@ left_step vs (number n) = refl
 left_step vs (cell k) = refl
 left_step vs (variable v) = refl
 
-left_threaded : (vs : List (List ℕ)) (l : Left) → Fine (say_left (binding vs) l) ↔ (Left-kept Any l × Room vs (left_variables l))
+left_threaded : (vs : List (List ℕ)) (l : Left) → Fine (say_left (binding vs) l) ↔ (LeftKept Any l × Room vs (left_variables l))
 left_threaded vs (number n) = ((λ f. (tt, tt)), (λ u. number_fine n))
 left_threaded vs (cell k) = ((λ f. ((cell_fine k).0 f, tt)), (λ (h, u). (cell_fine k).1 h))
 left_threaded vs (variable v) = ((λ f. (tt, (f, tt))), (λ (u, (f, v)). f))
 
 head_step : (vs : List (List ℕ)) (f : Fact Left) → next_head (binding vs) f ≡ binding (adds vs (head_variables f))
 head_step vs (bare p n) = refl
-head_step vs (applied p n xs) = threaded_step say_left next_left left_variables (Left-kept Any) left_step left_threaded vs xs
+head_step vs (applied p n xs) = threaded_step say_left next_left left_variables (LeftKept Any) left_step left_threaded vs xs
 
 head_threaded : (vs : List (List ℕ)) (f : Fact Left) → Fine (say_head (binding vs) f) ↔ (HeadKept f × Room vs (head_variables f))
 head_threaded vs (bare p n) = ((λ f. (tt, tt)), (λ u. tt))
 head_threaded vs (applied p n xs) =
-    let said : Said = say-parts comma say_left next_left 3 (binding vs) xs in
-    let all = threaded_fine say_left next_left left_variables (Left-kept Any) left_step left_threaded vs xs in (
+    let said : Said = say_parts comma say_left next_left 3 (binding vs) xs in
+    let all = threaded_fine say_left next_left left_variables (LeftKept Any) left_step left_threaded vs xs in (
       (λ f. let (c, d) = parts_forth comma say_left next_left first_left (λ σ. (left_part σ).opens) 3 (binding vs) xs (fine_parts said ((sign close_mark, fine) ∷ []) f).0 in let (p, r) = all.0 d in ((c, p), r)),
       (λ ((c, p), r). fine_app said ((sign close_mark, fine) ∷ []) (parts_back comma say_left next_left first_left (λ σ. (left_part σ).opens) 3 (binding vs) xs c (all.1 (p, r))) tt),
     )
@@ -203,7 +203,7 @@ RemovedKept hs (propagating g) = Unit {0}
 RemovedKept hs (simplifying g) = Unit {0}
 RemovedKept hs (simpagating rs g) = (count rs ≤ 3 - count hs) × Each HeadKept rs
 
-arrow_fine : (hs : Some (Fact Left)) (a : Arrow) → Fine (say_arrow hs a) ↔ (RemovedKept hs a × Room (adds [] (gathered head_variables hs)) (arrow_variables a) × Guard-kept (λ v. In v (rule_variables hs a)) (arrow_guard a))
+arrow_fine : (hs : Some (Fact Left)) (a : Arrow) → Fine (say_arrow hs a) ↔ (RemovedKept hs a × Room (adds [] (gathered head_variables hs)) (arrow_variables a) × GuardKept (λ v. In v (rule_variables hs a)) (arrow_guard a))
 arrow_fine hs (propagating g) =
     let e = guard_fine (behind hs (propagating g)) _ (known_behind hs (propagating g)) propagate propagate_guarded g in ((λ f. (tt, tt, e.0 f)), (λ (u, v, h). e.1 h))
 arrow_fine hs (simplifying g) =
@@ -283,7 +283,7 @@ abbrev FineRules : List (List ℕ) → List Rule → Type 0
 FineRules ns [] = Unit {0}
 FineRules ns (r ∷ rs) = Fine (say_rule ns r) × FineRules (next_rule ns r) rs
 
-many_forth : (k : ℕ) (ns : List (List ℕ)) (rs : List Rule) → Fine (say-many say_rule next_rule k ns rs) → (length rs ≤ k) × FineRules ns rs
+many_forth : (k : ℕ) (ns : List (List ℕ)) (rs : List Rule) → Fine (say_many say_rule next_rule k ns rs) → (length rs ≤ k) × FineRules ns rs
 many_forth zero ns [] f = (omega arith, tt)
 many_forth zero ns (r ∷ rs) f = absurd (spoiled_bad first_rule 5 (say_rule ns r ++ list_all say_rule next_rule (next_rule ns r) rs) (begins_app first_rule (say_rule ns r) _ ((rule_part ns).opens r)) f)
 many_forth (suc k) ns [] f = (omega arith, tt)
@@ -292,7 +292,7 @@ many_forth (suc k) ns (r ∷ rs) f =
     let (c, d) = many_forth k (next_rule ns r) rs b in
     (omega (arith, c), (a, d))
 
-many_back : (k : ℕ) (ns : List (List ℕ)) (rs : List Rule) → length rs ≤ k → FineRules ns rs → Fine (say-many say_rule next_rule k ns rs)
+many_back : (k : ℕ) (ns : List (List ℕ)) (rs : List Rule) → length rs ≤ k → FineRules ns rs → Fine (say_many say_rule next_rule k ns rs)
 many_back zero ns [] h f = tt
 many_back zero ns (r ∷ rs) h f = absurd (omega (arith, h))
 many_back (suc k) ns [] h f = tt

@@ -3,10 +3,10 @@ use Rattle.std.proofs.Common.{◌≡◌, ℕ, zero, suc, ◌-◌, Bool, true, fa
 use Rattle.std.proofs.lemmas.Bool.{cond-false, or_parts, and_right, eqb-true, false≢true}
 use Rattle.syntax.specs.Syntax.{W, name, var, num, weight, sign, kind, ahead, fine, Said, plain, spoiled, Reader}
 use Rattle.syntax.specs.Exact.{Exact}
-use Rattle.syntax.specs.Parts.{Some, last, more, say-all, say-parts, list_all, say-many}
+use Rattle.syntax.specs.Parts.{Some, last, more, say_all, say_parts, list_all, say_many}
 use Rattle.syntax.specs.Marks.{comma, dot, semicolon, bar, colon, simplify, simplify_guarded, propagate, propagate_guarded}
 use Rattle.syntax.specs.Tree.{Number, positive, negative, alone, raised, lowered, Left, number, cell, variable, Right as RightSide, fixed, summed, Argument, held, valued, Fact, bare, applied, Relation, is_less, is_at_most, is_equal, is_at_least, is_greater, is_different, Telling, tells_less, tells_at_most, tells_equal, tells_at_least, tells_greater, Comparison, compared, Item, added, told, failing, Content, nil, items, Alternative, plainly, weighted, Guard, none, guarded, Arrow, propagating, simplifying, simpagating, Label, named, named_true, named_fail, Rule, rule}
-use Rattle.syntax.specs.Grammar.{Scope, binding, closed, next_left, next_head, same, seal, scope_of, next_all, behind, count, label_word, next_rule, relation_code, telling_code, say_number, say_left, say_right, say_argument, say-fact, say_head, say_comparison, say_asking, say_item, say_content, say_alternative, say_body, say_guard, say_heads, say_arrow, say_rule, say_book, say_goal}
+use Rattle.syntax.specs.Grammar.{Scope, binding, closed, next_left, next_head, same, seal, scope_of, next_all, behind, count, label_word, next_rule, relation_code, telling_code, say_number, say_left, say_right, say_argument, say_fact, say_head, say_comparison, say_asking, say_item, say_content, say_alternative, say_body, say_guard, say_heads, say_arrow, say_rule, say_book, say_goal}
 use Rattle.syntax.specs.Readers.{read_book, read_goal}
 use Rattle.syntax.specs.Marking.{is_mark, guard_ahead, marked_sign, marked_word, starts_behind, marked_from, marked, written_word, written, Raw}
 use Rattle.syntax.specs.Claims.{Lacks, GuardsTold, WrittenExactly}
@@ -123,11 +123,11 @@ calm_spoiled n [] c = tt
 calm_spoiled n (x ∷ a) c = c
 
 module _ {S X : Type 0} (sep : ℕ) (say : S → X → Said) (next : S → X → S) (quiet : loud sep ≡ false) (calm : (σ : S) (x : X) → Calm (say σ x)) where
-  calm_all : (σ : S) (xs : Some X) → Calm (say-all sep say next σ xs)
+  calm_all : (σ : S) (xs : Some X) → Calm (say_all sep say next σ xs)
   calm_all σ (last x) = calm σ x
   calm_all σ (more x xs) = calm_app (say σ x) _ (calm σ x) (quiet, calm_all (next σ x) xs)
 
-  calm_parts : (k : ℕ) (σ : S) (xs : Some X) → Calm (say-parts sep say next k σ xs)
+  calm_parts : (k : ℕ) (σ : S) (xs : Some X) → Calm (say_parts sep say next k σ xs)
   calm_parts zero σ xs = calm_spoiled 5 _ (calm_all σ xs)
   calm_parts (suc k) σ (last x) = calm σ x
   calm_parts (suc k) σ (more x xs) = calm_app (say σ x) _ (calm σ x) (quiet, calm_parts k (next σ x) xs)
@@ -151,9 +151,9 @@ calm_argument : (σ : Scope) (a : Argument) → Calm (say_argument σ a)
 calm_argument σ (held k) = (refl, (tt, tt))
 calm_argument σ (valued r) = calm_right_side σ r
 
-calm_fact : {A : Type 0} (say : Scope → A → Said) (next : Scope → A → Scope) → ((σ : Scope) (a : A) → Calm (say σ a)) → (σ : Scope) (f : Fact A) → Calm (say-fact say next σ f)
+calm_fact : {A : Type 0} (say : Scope → A → Said) (next : Scope → A → Scope) → ((σ : Scope) (a : A) → Calm (say σ a)) → (σ : Scope) (f : Fact A) → Calm (say_fact say next σ f)
 calm_fact say next calm σ (bare p n) = (tt, tt)
-calm_fact say next calm σ (applied p n xs) = (tt, (refl, calm_app (say-parts comma say next 3 σ xs) _ (calm_parts comma say next refl calm 3 σ xs) (refl, tt)))
+calm_fact say next calm σ (applied p n xs) = (tt, (refl, calm_app (say_parts comma say next 3 σ xs) _ (calm_parts comma say next refl calm 3 σ xs) (refl, tt)))
 
 calm_heads : (k : ℕ) (σ : Scope) (hs : Some (Fact Left)) → Calm (say_heads k σ hs)
 calm_heads = calm_parts comma say_head next_head refl (calm_fact say_left next_left calm_left)
@@ -201,14 +201,14 @@ module _ {S X : Type 0} (say : S → X → Said) (next : S → X → S) (startin
         (λ u c r. subst (Right true) (sym (e u)) ((starting σ x).1 (sign semicolon ∷ onto s u) refl (λ b. (refl, h u c r)))),
       )
 
-  starting_all : (σ : S) (xs : Some X) → Starting (say-all semicolon say next σ xs)
+  starting_all : (σ : S) (xs : Some X) → Starting (say_all semicolon say next σ xs)
   starting_all σ (last x) = starting σ x
-  starting_all σ (more x xs) = starting_more σ x (say-all semicolon say next (next σ x) xs) (starting_all (next σ x) xs)
+  starting_all σ (more x xs) = starting_more σ x (say_all semicolon say next (next σ x) xs) (starting_all (next σ x) xs)
 
-  starting_parts : (k : ℕ) (σ : S) (xs : Some X) → Starting (say-parts semicolon say next k σ xs)
-  starting_parts zero σ xs = starting_spoiled 5 (say-all semicolon say next σ xs) (starting_all σ xs)
+  starting_parts : (k : ℕ) (σ : S) (xs : Some X) → Starting (say_parts semicolon say next k σ xs)
+  starting_parts zero σ xs = starting_spoiled 5 (say_all semicolon say next σ xs) (starting_all σ xs)
   starting_parts (suc k) σ (last x) = starting σ x
-  starting_parts (suc k) σ (more x xs) = starting_more σ x (say-parts semicolon say next k (next σ x) xs) (starting_parts k (next σ x) xs)
+  starting_parts (suc k) σ (more x xs) = starting_more σ x (say_parts semicolon say next k (next σ x) xs) (starting_parts k (next σ x) xs)
 
 starting_alternative : (σ : Scope) (a : Alternative) → Starting (say_alternative σ a)
 starting_alternative σ (plainly c) = let calm = calm_content 8 σ c in (calm_guard (say_content 8 σ c) calm, λ u h r. calm_right (say_content 8 σ c) calm u h r true)
@@ -239,7 +239,7 @@ guard_right : (p q : ℕ) → Pair p q → (σ : Scope) (g : Guard) (t : List W)
 guard_right p q e σ none t (end, r) b =
     (e.bare_word b (written t) ∙ ap (λ g. sign (cond g q p)) end, subst (λ s. Right s t) (sym (e.starts (written t) ∙ ap not end)) r)
 guard_right p q e σ (guarded cs) t (end, r) b =
-    let said : Said = say-parts comma say_asking same 4 σ cs in
+    let said : Said = say_parts comma say_asking same 4 σ cs in
     let calm : Calm said = calm_parts comma say_asking same refl (calm_comparison relation_code relation_quiet) 4 σ cs in
     let on : onto (said ++ (sign bar, fine) ∷ []) t ≡ onto said (sign bar ∷ t) = onto_app said ((sign bar, fine) ∷ []) t in (
       e.guard_word b (written (onto (said ++ (sign bar, fine) ∷ []) t)) ∙ ap (λ g. sign (cond g q p)) (ap (λ v. guard_ahead (written v)) on ∙ calm_guard said calm (sign bar ∷ t)),
@@ -290,7 +290,7 @@ onto_spoiled : (n : ℕ) (s : Said) (u : List W) → onto (spoiled n s) u ≡ on
 onto_spoiled n [] u = refl
 onto_spoiled n (x ∷ s) u = refl
 
-onto_many : (k : ℕ) (ns : List (List ℕ)) (rs : List Rule) → onto (say-many say_rule next_rule k ns rs) [] ≡ onto (list_all say_rule next_rule ns rs) []
+onto_many : (k : ℕ) (ns : List (List ℕ)) (rs : List Rule) → onto (say_many say_rule next_rule k ns rs) [] ≡ onto (list_all say_rule next_rule ns rs) []
 onto_many zero ns rs = onto_spoiled 5 (list_all say_rule next_rule ns rs) []
 onto_many (suc k) ns [] = refl
 onto_many (suc k) ns (r ∷ rs) = onto_app (say_rule ns r) _ [] ∙ ap (onto (say_rule ns r)) (onto_many k (next_rule ns r) rs) ∙ sym (onto_app (say_rule ns r) _ [])
@@ -299,7 +299,7 @@ onto_many (suc k) ns (r ∷ rs) = onto_app (say_rule ns r) _ [] ∙ ap (onto (sa
 pub book_again : (b : List Rule) → marked (written (plain (say_book b))) ≡ plain (say_book b)
 unfolding say_book
 book_again b =
-    let e = sym (onto_plain (say-many say_rule next_rule 32 [] b)) ∙ onto_many 32 [] b in
+    let e = sym (onto_plain (say_many say_rule next_rule 32 [] b)) ∙ onto_many 32 [] b in
     right_again false _ (subst (Right false) (sym e) (list_right [] b false))
 
 pub goal_again : (c : Content) → marked (written (plain (say_goal c))) ≡ plain (say_goal c)

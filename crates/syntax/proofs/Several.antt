@@ -3,8 +3,8 @@ use Rattle.std.proofs.Common.{◌≡◌, ℕ, zero, suc, true, false, eqb, ◌�
 use Rattle.std.proofs.lemmas.Bool.{eqb-true, eq-eqb, or_cases, or_left, false≢true}
 use Rattle.syntax.specs.Syntax.{W, name, var, num, weight, sign, kind, mem, Note, fine, flaw, Said, front, Fine, Reader, ahead, spoiled}
 use Rattle.syntax.specs.Good.{Begins, Good}
-use Rattle.syntax.specs.Parts.{Some, last, more, mark, Chain, some_of, parts, say-all, say-parts, list_of, many, list_all, say-many}
-use Rattle.syntax.proofs.Laws.{rest, rest_fine, fine_app, fine_parts, say_both, stops_both, both-good, one-good, nothing_good, say_fork, stops_fork, fork-good, say_ended, stops_ended, ended-good, over-good, via_good}
+use Rattle.syntax.specs.Parts.{Some, last, more, mark, Chain, some_of, parts, say_all, say_parts, list_of, many, list_all, say_many}
+use Rattle.syntax.proofs.Laws.{rest, rest_fine, fine_app, fine_parts, say_both, stops_both, both_good, one_good, nothing_good, say_fork, stops_fork, fork_good, say_ended, stops_ended, ended_good, over_good, via_good}
 
 -- the word ahead is none of some kinds
 abbrev pub Stop : List ℕ → List W → Type 0
@@ -34,7 +34,7 @@ abbrev pub say_mark : ℕ → Unit {0} → Said
 say_mark c u = (sign c, fine) ∷ []
 
 pub mark_good : (c : ℕ) → Good (mark c) (say_mark c) Free
-mark_good c = one-good (kind (sign c) ∷ []) (λ _. tt) (λ _. fine) (λ _. sign c) tt (λ x. refl) (λ x. only_self (kind (sign c))) (mark_forth c)
+mark_good c = one_good (kind (sign c) ∷ []) (λ _. tt) (λ _. fine) (λ _. sign c) tt (λ x. refl) (λ x. only_self (kind (sign c))) (mark_forth c)
 
 abbrev pub chain : {X : Type 0} → Some X → Chain X
 chain (last x) = (x, inr tt)
@@ -70,36 +70,36 @@ abbrev pub Starts : {X : Type 0} → List ℕ → (X → Said) → Type 0
 Starts {X} ks say = (w : W) → mem ks (kind w) ≡ true → (x : X) × (m : Note) × (s : Said) × (say x ≡ (w, m) ∷ s)
 
 module _ {S X : Type 0} (sep : ℕ) (next : S → X → S) (say : S → X → Said) (SP : S → X → List W → Type 0) where
-  abbrev pub stops-parts : ℕ → S → Some X → List W → Type 0
-  stops-parts zero σ xs r = Unit {0}
-  stops-parts (suc k) σ xs r = stops_both (say σ) (λ x. say_fork (say_both (say_mark sep) (λ _. say-parts sep say next k (next σ x))) (λ _. [])) (SP σ) (λ x. stops_fork (kind (sign sep) ∷ []) (λ _. []) (stops_both (say_mark sep) (λ _. say-parts sep say next k (next σ x)) Free (λ _. stops-parts k (next σ x))) Free) (chain xs) r
+  abbrev pub stops_parts : ℕ → S → Some X → List W → Type 0
+  stops_parts zero σ xs r = Unit {0}
+  stops_parts (suc k) σ xs r = stops_both (say σ) (λ x. say_fork (say_both (say_mark sep) (λ _. say_parts sep say next k (next σ x))) (λ _. [])) (SP σ) (λ x. stops_fork (kind (sign sep) ∷ []) (λ _. []) (stops_both (say_mark sep) (λ _. say_parts sep say next k (next σ x)) Free (λ _. stops_parts k (next σ x))) Free) (chain xs) r
 
-  parts_same : (k : ℕ) (σ : S) (c : Chain X) → say-parts sep say next (suc k) σ (some_of c) ≡ say_both (say σ) (λ x. say_fork (say_both (say_mark sep) (λ _. say-parts sep say next k (next σ x))) (λ _. [])) c
+  parts_same : (k : ℕ) (σ : S) (c : Chain X) → say_parts sep say next (suc k) σ (some_of c) ≡ say_both (say σ) (λ x. say_fork (say_both (say_mark sep) (λ _. say_parts sep say next k (next σ x))) (λ _. [])) c
   parts_same k σ (x, inl (u, xs)) = refl
   parts_same k σ (x, inr u) = sym (app_nil (say σ x))
 
   module _ (first : List ℕ) (opens : (σ : S) (x : X) → Begins first (say σ x)) where
-    all-begin : (σ : S) (xs : Some X) → Begins first (say-all sep say next σ xs)
-    all-begin σ (last x) = opens σ x
-    all-begin σ (more x xs) = begins_app first (say σ x) _ (opens σ x)
+    all_begin : (σ : S) (xs : Some X) → Begins first (say_all sep say next σ xs)
+    all_begin σ (last x) = opens σ x
+    all_begin σ (more x xs) = begins_app first (say σ x) _ (opens σ x)
 
-    pub parts-begin : (k : ℕ) (σ : S) (xs : Some X) → Begins first (say-parts sep say next k σ xs)
-    parts-begin zero σ xs = begins_spoiled first 5 (say-all sep say next σ xs) (all-begin σ xs)
-    parts-begin (suc k) σ (last x) = opens σ x
-    parts-begin (suc k) σ (more x xs) = begins_app first (say σ x) _ (opens σ x)
+    pub parts_begin : (k : ℕ) (σ : S) (xs : Some X) → Begins first (say_parts sep say next k σ xs)
+    parts_begin zero σ xs = begins_spoiled first 5 (say_all sep say next σ xs) (all_begin σ xs)
+    parts_begin (suc k) σ (last x) = opens σ x
+    parts_begin (suc k) σ (more x xs) = begins_app first (say σ x) _ (opens σ x)
 
     module _ (starts : (σ : S) → Starts first (say σ)) (part : S → Reader X) (gp : (σ : S) → Good (part σ) (say σ) (SP σ)) where
-      pub parts-good : (k : ℕ) (σ : S) → Good (parts first sep part next k σ) (say-parts sep say next k σ) (stops-parts k σ)
-      parts-good zero σ = over-good first 5 (say-all sep say next σ) (last (gp σ).some) (all-begin σ) (λ w m. let b = starts σ w m in (last b.0, b.1, b.2, b.3))
-      parts-good (suc k) σ = via_good some_of chain (say-parts sep say next (suc k) σ) chain_back chain_forth (parts_same k σ) (both-good (gp σ) (λ x. fork-good (kind (sign sep) ∷ []) (λ z. only_self (kind (sign sep))) (both-good (mark_good sep) (λ _. parts-good k (next σ x))) nothing_good))
+      pub parts_good : (k : ℕ) (σ : S) → Good (parts first sep part next k σ) (say_parts sep say next k σ) (stops_parts k σ)
+      parts_good zero σ = over_good first 5 (say_all sep say next σ) (last (gp σ).some) (all_begin σ) (λ w m. let b = starts σ w m in (last b.0, b.1, b.2, b.3))
+      parts_good (suc k) σ = via_good some_of chain (say_parts sep say next (suc k) σ) chain_back chain_forth (parts_same k σ) (both_good (gp σ) (λ x. fork_good (kind (sign sep) ∷ []) (λ z. only_self (kind (sign sep))) (both_good (mark_good sep) (λ _. parts_good k (next σ x))) nothing_good))
 
   -- a word that ends a part and is not the mark ends the parts
   module _ (g : List ℕ) (clear : mem g (kind (sign sep)) ≡ false) (ends : (σ : S) (x : X) (r : List W) → (Fine (say σ x) → Stop g r) → SP σ x r) where
-    pub parts-stop : (k : ℕ) (σ : S) (xs : Some X) (r : List W) → (Fine (say-parts sep say next k σ xs) → Stop g r × Stop (kind (sign sep) ∷ []) r) → stops-parts k σ xs r
-    parts-stop zero σ xs r h = tt
-    parts-stop (suc k) σ (last x) r h = (ends σ x _ (λ f. subst (Stop g) (sym (rest_nil (say σ x) r)) (h f).0), λ f. (tt, (h f).1))
-    parts-stop (suc k) σ (more x xs) r h =
-        (ends σ x _ (λ f. subst (Stop g) (sym (rest_fine (say σ x) _ r f)) clear), λ f. (tt, λ _. parts-stop k (next σ x) xs r (λ e. h (fine_app (say σ x) _ f e))))
+    pub parts_stop : (k : ℕ) (σ : S) (xs : Some X) (r : List W) → (Fine (say_parts sep say next k σ xs) → Stop g r × Stop (kind (sign sep) ∷ []) r) → stops_parts k σ xs r
+    parts_stop zero σ xs r h = tt
+    parts_stop (suc k) σ (last x) r h = (ends σ x _ (λ f. subst (Stop g) (sym (rest_nil (say σ x) r)) (h f).0), λ f. (tt, (h f).1))
+    parts_stop (suc k) σ (more x xs) r h =
+        (ends σ x _ (λ f. subst (Stop g) (sym (rest_fine (say σ x) _ r f)) clear), λ f. (tt, λ _. parts_stop k (next σ x) xs r (λ e. h (fine_app (say σ x) _ f e))))
 
 abbrev unlist : {X : Type 0} → List X → ((x : X) × List X) ⊎ Unit {0}
 unlist [] = inr tt
@@ -114,25 +114,25 @@ unlist_forth (inl (x, xs)) = refl
 unlist_forth (inr u) = refl
 
 module _ {S X : Type 0} (next : S → X → S) (say : S → X → Said) (SP : S → X → List W → Type 0) where
-  abbrev say-first : S → ((x : X) × List X) → Said
-  say-first σ c = say σ c.0 ++ list_all say next (next σ c.0) c.1
+  abbrev say_first : S → ((x : X) × List X) → Said
+  say_first σ c = say σ c.0 ++ list_all say next (next σ c.0) c.1
 
-  abbrev pub stops-many : ℕ → S → List X → List W → Type 0
-  stops-many zero σ xs r = stops_ended {X = (x : X) × List X} Free (unlist xs) r
-  stops-many (suc k) σ xs r = stops_ended (stops_both (say σ) (λ x. say-many say next k (next σ x)) (SP σ) (λ x. stops-many k (next σ x))) (unlist xs) r
+  abbrev pub stops_many : ℕ → S → List X → List W → Type 0
+  stops_many zero σ xs r = stops_ended {X = (x : X) × List X} Free (unlist xs) r
+  stops_many (suc k) σ xs r = stops_ended (stops_both (say σ) (λ x. say_many say next k (next σ x)) (SP σ) (λ x. stops_many k (next σ x))) (unlist xs) r
 
-  many_same_over : (σ : S) (c : ((x : X) × List X) ⊎ Unit {0}) → say-many say next zero σ (list_of c) ≡ say_ended (λ x. spoiled 5 (say-first σ x)) c
+  many_same_over : (σ : S) (c : ((x : X) × List X) ⊎ Unit {0}) → say_many say next zero σ (list_of c) ≡ say_ended (λ x. spoiled 5 (say_first σ x)) c
   many_same_over σ (inl (x, xs)) = refl
   many_same_over σ (inr u) = refl
 
-  many_same : (k : ℕ) (σ : S) (c : ((x : X) × List X) ⊎ Unit {0}) → say-many say next (suc k) σ (list_of c) ≡ say_ended (say_both (say σ) (λ x. say-many say next k (next σ x))) c
+  many_same : (k : ℕ) (σ : S) (c : ((x : X) × List X) ⊎ Unit {0}) → say_many say next (suc k) σ (list_of c) ≡ say_ended (say_both (say σ) (λ x. say_many say next k (next σ x))) c
   many_same k σ (inl (x, xs)) = refl
   many_same k σ (inr u) = refl
 
   module _ (first : List ℕ) (opens : (σ : S) (x : X) → Begins first (say σ x)) (starts : (σ : S) → Starts first (say σ)) (part : S → Reader X) (gp : (σ : S) → Good (part σ) (say σ) (SP σ)) where
-    pub many-good : (k : ℕ) (σ : S) → Good (many first part next k σ) (say-many say next k σ) (stops-many k σ)
-    many-good zero σ = via_good list_of unlist (say-many say next zero σ) unlist_back unlist_forth (many_same_over σ) (ended-good first (λ c. begins_spoiled first 5 (say-first σ c) (begins_app first (say σ c.0) _ (opens σ c.0))) (over-good first 5 (say-first σ) ((gp σ).some, []) (λ c. begins_app first (say σ c.0) _ (opens σ c.0)) (λ w m. let b = starts σ w m in ((b.0, []), b.1, b.2, app_nil (say σ b.0) ∙ b.3))))
-    many-good (suc k) σ = via_good list_of unlist (say-many say next (suc k) σ) unlist_back unlist_forth (many_same k σ) (ended-good first (λ c. begins_app first (say σ c.0) _ (opens σ c.0)) (both-good (gp σ) (λ x. many-good k (next σ x))))
+    pub many_good : (k : ℕ) (σ : S) → Good (many first part next k σ) (say_many say next k σ) (stops_many k σ)
+    many_good zero σ = via_good list_of unlist (say_many say next zero σ) unlist_back unlist_forth (many_same_over σ) (ended_good first (λ c. begins_spoiled first 5 (say_first σ c) (begins_app first (say σ c.0) _ (opens σ c.0))) (over_good first 5 (say_first σ) ((gp σ).some, []) (λ c. begins_app first (say σ c.0) _ (opens σ c.0)) (λ w m. let b = starts σ w m in ((b.0, []), b.1, b.2, app_nil (say σ b.0) ∙ b.3))))
+    many_good (suc k) σ = via_good list_of unlist (say_many say next (suc k) σ) unlist_back unlist_forth (many_same k σ) (ended_good first (λ c. begins_app first (say σ c.0) _ (opens σ c.0)) (both_good (gp σ) (λ x. many_good k (next σ x))))
 
   -- at the end a list stops, and nowhere else; every word that begins a part ends the part before
   module _ (first : List ℕ) (opens : (σ : S) (x : X) → Begins first (say σ x)) (g : List ℕ) (clear : (k : ℕ) → mem first k ≡ true → mem g k ≡ false) (ends : (σ : S) (x : X) (r : List W) → (Fine (say σ x) → Stop g r) → SP σ x r) where
@@ -140,27 +140,27 @@ module _ {S X : Type 0} (next : S → X → S) (say : S → X → Said) (SP : S 
     stop_begins [] r h = absurd h
     stop_begins (x ∷ s) r h = clear (kind x.0) h
 
-    many-begin : (k : ℕ) (σ : S) (x : X) (xs : List X) → Begins first (say-many say next k σ (x ∷ xs))
-    many-begin zero σ x xs = begins_spoiled first 5 (say-first σ (x, xs)) (begins_app first (say σ x) _ (opens σ x))
-    many-begin (suc k) σ x xs = begins_app first (say σ x) _ (opens σ x)
+    many_begin : (k : ℕ) (σ : S) (x : X) (xs : List X) → Begins first (say_many say next k σ (x ∷ xs))
+    many_begin zero σ x xs = begins_spoiled first 5 (say_first σ (x, xs)) (begins_app first (say σ x) _ (opens σ x))
+    many_begin (suc k) σ x xs = begins_app first (say σ x) _ (opens σ x)
 
-    many-ahead : (k : ℕ) (σ : S) (xs : List X) (r : List W) → (Fine (say-many say next k σ xs) → r ≡ []) → Stop g (front (say-many say next k σ xs) r)
-    many-ahead zero σ [] r h = ap (ahead g) (h tt)
-    many-ahead (suc k) σ [] r h = ap (ahead g) (h tt)
-    many-ahead zero σ (x ∷ xs) r h = stop_begins _ r (many-begin zero σ x xs)
-    many-ahead (suc k) σ (x ∷ xs) r h = stop_begins _ r (many-begin (suc k) σ x xs)
+    many_ahead : (k : ℕ) (σ : S) (xs : List X) (r : List W) → (Fine (say_many say next k σ xs) → r ≡ []) → Stop g (front (say_many say next k σ xs) r)
+    many_ahead zero σ [] r h = ap (ahead g) (h tt)
+    many_ahead (suc k) σ [] r h = ap (ahead g) (h tt)
+    many_ahead zero σ (x ∷ xs) r h = stop_begins _ r (many_begin zero σ x xs)
+    many_ahead (suc k) σ (x ∷ xs) r h = stop_begins _ r (many_begin (suc k) σ x xs)
 
-    pub many-stop : (k : ℕ) (σ : S) (xs : List X) (r : List W) → (Fine (say-many say next k σ xs) → r ≡ []) → stops-many k σ xs r
-    many-stop zero σ [] r h = h tt
-    many-stop zero σ (x ∷ xs) r h = tt
-    many-stop (suc k) σ [] r h = h tt
-    many-stop (suc k) σ (x ∷ xs) r h =
-        let all : Said = say-many say next k (next σ x) xs in (
-          ends σ x _ (λ f. subst (Stop g) (sym (rest_fine (say σ x) all r f)) (many-ahead k (next σ x) xs r (λ e. h (fine_app (say σ x) all f e)))),
-          λ f. many-stop k (next σ x) xs r (λ e. h (fine_app (say σ x) all f e)),
+    pub many_stop : (k : ℕ) (σ : S) (xs : List X) (r : List W) → (Fine (say_many say next k σ xs) → r ≡ []) → stops_many k σ xs r
+    many_stop zero σ [] r h = h tt
+    many_stop zero σ (x ∷ xs) r h = tt
+    many_stop (suc k) σ [] r h = h tt
+    many_stop (suc k) σ (x ∷ xs) r h =
+        let all : Said = say_many say next k (next σ x) xs in (
+          ends σ x _ (λ f. subst (Stop g) (sym (rest_fine (say σ x) all r f)) (many_ahead k (next σ x) xs r (λ e. h (fine_app (say σ x) all f e)))),
+          λ f. many_stop k (next σ x) xs r (λ e. h (fine_app (say σ x) all f e)),
         )
 
-    pub many_end : (k : ℕ) (σ : S) (xs : List X) (r : List W) → Fine (say-many say next k σ xs) → stops-many k σ xs r → r ≡ []
+    pub many_end : (k : ℕ) (σ : S) (xs : List X) (r : List W) → Fine (say_many say next k σ xs) → stops_many k σ xs r → r ≡ []
     many_end zero σ [] r f h = h
     many_end zero σ (x ∷ xs) r f h = absurd (spoiled_bad (say σ x) (opens σ x) f)
       where

@@ -6,7 +6,7 @@ use Rattle.syntax.specs.Parts.{Some, last, more, mark, some_of, parts, list_of, 
 use Rattle.syntax.specs.Marks.{open_mark, close_mark}
 use Rattle.syntax.specs.Tree.{Fact, bare, applied}
 use Rattle.syntax.specs.Grammar.{Scope}
-use Rattle.syntax.specs.Readers.{name_kind, name_value, behind_mark, on_mark, fact_of, read-arguments, read-fact}
+use Rattle.syntax.specs.Readers.{name_kind, name_value, behind_mark, on_mark, fact_of, read_arguments, read_fact}
 
 abbrev pub behind_one : List W → List W
 behind_one [] = []
@@ -39,13 +39,13 @@ module _ {X : Type 0} (c : ℕ) (a : Reader X) where
     abbrev pub first_way : X → ((u : Unit {0}) × X) ⊎ Y
     first_way x = inl (tt, x)
 
-    on-fuse : (o : Out X) → mapped inl (mapped marked_off o) ≡ mapped first_way o
-    on-fuse (ok x r) = refl
-    on-fuse (barred r) = refl
-    on-fuse (flawed n w r) = refl
+    on_fuse : (o : Out X) → mapped inl (mapped marked_off o) ≡ mapped first_way o
+    on_fuse (ok x r) = refl
+    on_fuse (barred r) = refl
+    on_fuse (flawed n w r) = refl
 
     on_word : (w : W) (r : List W) (t : Bool) → cond t (mapped inl (after {Y = (u : Unit {0}) × X} (cond t (ok tt r) (barred (w ∷ r))) (λ u s. mapped (λ y. (u, y)) (a s)))) (mapped inr (b (w ∷ r))) ≡ cond t (mapped first_way (a r)) (mapped inr (b (w ∷ r)))
-    on_word w r true = on-fuse (a r)
+    on_word w r true = on_fuse (a r)
     on_word w r false = refl
 
     pub on_step : (ws : List W) → on_mark c a b ws ≡ cond (at c ws) (mapped first_way (a (behind_one ws))) (mapped inr (b ws))
@@ -107,24 +107,24 @@ module _ {A : Type 0} (read : Scope → Reader A) (next : Scope → A → Scope)
     abbrev pub shut : Some A → List W → Out (Fact A)
     shut xs u = cond (at close_mark u) (ok (applied p n xs) (behind_one u)) (barred u)
 
-    fact-close : (xs : Some A) (v : W) (u : List W) (t : Bool) → mapped (fact_of read next) (mapped (λ y. ((p, n), y)) (mapped inl (mapped (λ y. (tt, y)) (mapped (λ y. (xs, y)) (cond t (ok tt u) (barred (v ∷ u))))))) ≡ cond t (ok (applied p n xs) u) (barred (v ∷ u))
-    fact-close xs v u true = refl
-    fact-close xs v u false = refl
+    fact_close : (xs : Some A) (v : W) (u : List W) (t : Bool) → mapped (fact_of read next) (mapped (λ y. ((p, n), y)) (mapped inl (mapped (λ y. (tt, y)) (mapped (λ y. (xs, y)) (cond t (ok tt u) (barred (v ∷ u))))))) ≡ cond t (ok (applied p n xs) u) (barred (v ∷ u))
+    fact_close xs v u true = refl
+    fact_close xs v u false = refl
 
-    fact-arguments : (o : Out (Some A)) → mapped (fact_of read next) (mapped (λ y. ((p, n), y)) (mapped inl (mapped (λ y. (tt, y)) (after o (λ xs u. mapped (λ y. (xs, y)) (mark close_mark u)))))) ≡ after o shut
-    fact-arguments (ok xs []) = refl
-    fact-arguments (ok xs (v ∷ u)) = fact-close xs v u (mem (kind (sign close_mark) ∷ []) (kind v))
-    fact-arguments (barred r) = refl
-    fact-arguments (flawed m w r) = refl
+    fact_arguments : (o : Out (Some A)) → mapped (fact_of read next) (mapped (λ y. ((p, n), y)) (mapped inl (mapped (λ y. (tt, y)) (after o (λ xs u. mapped (λ y. (xs, y)) (mark close_mark u)))))) ≡ after o shut
+    fact_arguments (ok xs []) = refl
+    fact_arguments (ok xs (v ∷ u)) = fact_close xs v u (mem (kind (sign close_mark) ∷ []) (kind v))
+    fact_arguments (barred r) = refl
+    fact_arguments (flawed m w r) = refl
 
-    fact-open : (w : W) (r : List W) (t : Bool) → mapped (fact_of read next) (mapped (λ y. ((p, n), y)) (cond t (mapped inl (after (cond t (ok tt r) (barred (w ∷ r))) (λ u s. mapped (λ y. (u, y)) (both (read-arguments read next σ) (λ _. mark close_mark) s)))) (mapped inr (ok tt (w ∷ r))))) ≡ cond t (after (read-arguments read next σ r) shut) (ok (bare p n) (w ∷ r))
-    fact-open w r true = fact-arguments (read-arguments read next σ r)
-    fact-open w r false = refl
+    fact_open : (w : W) (r : List W) (t : Bool) → mapped (fact_of read next) (mapped (λ y. ((p, n), y)) (cond t (mapped inl (after (cond t (ok tt r) (barred (w ∷ r))) (λ u s. mapped (λ y. (u, y)) (both (read_arguments read next σ) (λ _. mark close_mark) s)))) (mapped inr (ok tt (w ∷ r))))) ≡ cond t (after (read_arguments read next σ r) shut) (ok (bare p n) (w ∷ r))
+    fact_open w r true = fact_arguments (read_arguments read next σ r)
+    fact_open w r false = refl
 
-    pub fact-step : (r : List W) → read-fact read next σ (name p n ∷ r) ≡ cond (at open_mark r) (after (read-arguments read next σ (behind_one r)) shut) (ok (bare p n) r)
-    fact-step [] = refl
-    fact-step (w ∷ r) = fact-open w r (mem (kind (sign open_mark) ∷ []) (kind w))
+    pub fact_step : (r : List W) → read_fact read next σ (name p n ∷ r) ≡ cond (at open_mark r) (after (read_arguments read next σ (behind_one r)) shut) (ok (bare p n) r)
+    fact_step [] = refl
+    fact_step (w ∷ r) = fact_open w r (mem (kind (sign open_mark) ∷ []) (kind w))
 
-  pub fact_other : (w : W) (r : List W) → mem (name_kind ∷ []) (kind w) ≡ false → read-fact read next σ (w ∷ r) ≡ barred (w ∷ r)
+  pub fact_other : (w : W) (r : List W) → mem (name_kind ∷ []) (kind w) ≡ false → read_fact read next σ (w ∷ r) ≡ barred (w ∷ r)
   fact_other w r h =
-      ap (λ o. mapped (fact_of read next) (after o (λ n u. mapped (λ y. (n, y)) (on_mark open_mark (both (read-arguments read next σ) (λ _. mark close_mark)) nothing u)))) (cond-false (mem (name_kind ∷ []) (kind w)) (ok (name_value w) r) (barred (w ∷ r)) h)
+      ap (λ o. mapped (fact_of read next) (after o (λ n u. mapped (λ y. (n, y)) (on_mark open_mark (both (read_arguments read next σ) (λ _. mark close_mark)) nothing u)))) (cond-false (mem (name_kind ∷ []) (kind w)) (ok (name_value w) r) (barred (w ∷ r)) h)

@@ -170,8 +170,8 @@ module _ {X : Type 0} {R : Reader X} {say : X → Said} {S : X → List W → Ty
   from_refuses : (ws r : List W) → Refuses say ws r → R ws ≡ barred r
   from_refuses ws r (p, e, (y, s, t, d, f, c), b) = go (R ws) refl
     where
-      at-flaw : (n : ℕ) (v : W) (u : List W) → R ws ≡ flawed n v u → Faults say ws n v u → R ws ≡ barred r
-      at-flaw n v u k (x, s', t', d', f', e') = cases (part_ways (plain s') (v ∷ u) p r (sym e' ∙ e))
+      at_flaw : (n : ℕ) (v : W) (u : List W) → R ws ≡ flawed n v u → Faults say ws n v u → R ws ≡ barred r
+      at_flaw n v u k (x, s', t', d', f', e') = cases (part_ways (plain s') (v ∷ u) p r (sym e' ∙ e))
         where
           said : plain (say x) ≡ plain s' ++ v ∷ plain t'
           said = ap plain d' ∙ plain_app s' ((v, flaw n) ∷ t')
@@ -187,8 +187,8 @@ module _ {X : Type 0} {R : Reader X} {say : X → Said} {S : X → List W → Ty
           cases (inl (m, h, g)) = inside m h g
           cases (inr (w, m, h, g)) = absurd (bars_start p r x w m (v ∷ u) (m ++ v ∷ plain t') b g (said ∙ ap (λ z. z ++ v ∷ plain t') h ∙ words_assoc p (w ∷ m) (v ∷ plain t')))
 
-      at-bar : (u : List W) → R ws ≡ barred u → Honest R say S ws (barred u) → R ws ≡ barred r
-      at-bar u k (x, s', t', d', f', e', loc) = cases (part_ways (plain s') u p r (sym (front_plain s' u f') ∙ sym e' ∙ e))
+      at_bar : (u : List W) → R ws ≡ barred u → Honest R say S ws (barred u) → R ws ≡ barred r
+      at_bar u k (x, s', t', d', f', e', loc) = cases (part_ways (plain s') u p r (sym (front_plain s' u f') ∙ sym e' ∙ e))
         where
           said : plain (say x) ≡ plain s' ++ plain t'
           said = ap plain d' ∙ plain_app s' t'
@@ -204,8 +204,8 @@ module _ {X : Type 0} {R : Reader X} {say : X → Said} {S : X → List W → Ty
 
       go : (o : Out X) → R ws ≡ o → R ws ≡ barred r
       go (ok x u) k = absurd (bars_not p r x b (((whole_accepts ws x).0 (k ∙ ap (ok x) (whole_whole ws x u k))).0 ∙ e))
-      go (flawed n v u) k = at-flaw n v u k (to_faults ws n v u k)
-      go (barred u) k = at-bar u k (honest_at ws (barred u) k)
+      go (flawed n v u) k = at_flaw n v u k (to_faults ws n v u k)
+      go (barred u) k = at_bar u k (honest_at ws (barred u) k)
 
   whole_unique : (ws : List W) (x y : X) → Accepts say ws x → Accepts say ws y → x ≡ y
   whole_unique ws x y a b = ap (value_or x) (sym ((whole_accepts ws x).1 a) ∙ (whole_accepts ws y).1 b)

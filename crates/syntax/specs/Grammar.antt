@@ -1,7 +1,7 @@
 -- The grammar: what each part of a book or goal says in words, each word with the fault that it has, if any. Assumes nothing.
 use Rattle.std.specs.Prelude.{ℕ, zero, suc, ◌-◌, Bool, true, false, cond, ◌&&◌, ◌||◌, List, [], ◌∷◌, ◌++◌, length, ◌==◌, nat_le, nat_lt}
 use Rattle.syntax.specs.Syntax.{W, name, var, num, weight, sign, Note, fine, flaw, Said}
-use Rattle.syntax.specs.Parts.{Some, last, more, say-parts, say-many}
+use Rattle.syntax.specs.Parts.{Some, last, more, say_parts, say_many}
 use Rattle.syntax.specs.Marks.{at_mark, comma, dot, semicolon, bar, backslash, open_mark, close_mark, plus, minus, colon, hash, ask, less, at_most, equal, at_least, greater, different, simplify, simplify_guarded, propagate, propagate_guarded, true_word, fail_word}
 use Rattle.syntax.specs.Tree.{Number, positive, negative, Sum, alone, raised, lowered, Left, number, cell, variable, Right, fixed, summed, Argument, held, valued, Fact, bare, applied, Relation, is_less, is_at_most, is_equal, is_at_least, is_greater, is_different, Telling, tells_less, tells_at_most, tells_equal, tells_at_least, tells_greater, Comparison, compared, Item, added, told, failing, Content, nil, items, Alternative, plainly, weighted, Guard, none, guarded, Arrow, propagating, simplifying, simpagating, Label, named, named_true, named_fail, Rule, rule}
 
@@ -121,16 +121,16 @@ say_argument σ (valued r) = say_right σ r
 
 -- a fact is a name, or a name with 1 to 3 arguments in brackets
 module _ {A : Type 0} (say : Scope → A → Said) (next : Scope → A → Scope) where
-  abbrev pub say-fact : Scope → Fact A → Said
-  say-fact σ (bare p n) = (name p n, fine) ∷ []
-  say-fact σ (applied p n xs) =
-      (name p n, fine) ∷ (sign open_mark, fine) ∷ say-parts comma say next 3 σ xs ++ (sign close_mark, fine) ∷ []
+  abbrev pub say_fact : Scope → Fact A → Said
+  say_fact σ (bare p n) = (name p n, fine) ∷ []
+  say_fact σ (applied p n xs) =
+      (name p n, fine) ∷ (sign open_mark, fine) ∷ say_parts comma say next 3 σ xs ++ (sign close_mark, fine) ∷ []
 
 abbrev pub say_head : Scope → Fact Left → Said
-say_head = say-fact say_left next_left
+say_head = say_fact say_left next_left
 
 abbrev pub say_adding : Scope → Fact Argument → Said
-say_adding = say-fact say_argument same
+say_adding = say_fact say_argument same
 
 abbrev pub relation_code : Relation → ℕ
 relation_code is_less = less
@@ -167,7 +167,7 @@ say_item σ failing = (sign fail_word, fine) ∷ []
 -- `true`, or items parted by commas, at most so many
 abbrev pub say_content : ℕ → Scope → Content → Said
 say_content most σ nil = (sign true_word, fine) ∷ []
-say_content most σ (items is) = say-parts comma say_item same most σ is
+say_content most σ (items is) = say_parts comma say_item same most σ is
 
 -- a weight is at most 1,000
 abbrev pub weight_note : W → Note
@@ -184,17 +184,17 @@ say_alternative σ (weighted n c) = (weight n, weight_note (weight n)) ∷ (sign
 
 -- a body is 1 to 8 alternatives parted by `;`
 abbrev pub say_body : Scope → Some Alternative → Said
-say_body = say-parts semicolon say_alternative same 8
+say_body = say_parts semicolon say_alternative same 8
 
 -- an arrow, and a guard if it has one: 1 to 4 comparisons and `|`
 abbrev pub say_guard : ℕ → ℕ → Scope → Guard → Said
 say_guard plain guarding σ none = (sign plain, fine) ∷ []
 say_guard plain guarding σ (guarded cs) =
-    (sign guarding, fine) ∷ say-parts comma say_asking same 4 σ cs ++ (sign bar, fine) ∷ []
+    (sign guarding, fine) ∷ say_parts comma say_asking same 4 σ cs ++ (sign bar, fine) ∷ []
 
 -- heads parted by commas, at most so many
 abbrev pub say_heads : ℕ → Scope → Some (Fact Left) → Said
-say_heads = say-parts comma say_head next_head
+say_heads = say_parts comma say_head next_head
 
 -- behind the first heads: the arrow, or `\`, as many more heads as there is room for, and `<=>`
 abbrev pub say_arrow : Some (Fact Left) → Arrow → Said
@@ -241,7 +241,7 @@ next_rule ns (rule l hs a b) = ns ++ label_name l ∷ []
 
 -- a book is 0 to 32 rules
 unfoldable pub say_book : List Rule → Said
-say_book = say-many say_rule next_rule 32 []
+say_book = say_many say_rule next_rule 32 []
 
 -- a goal is `?-`, `true` or 1 to 16 items, and `.`
 unfoldable pub say_goal : Content → Said

@@ -51,21 +51,21 @@ rule_variables hs a = gathered head_variables hs ++ arrow_variables a
 
 -- cells are 0 to 31; `known` tells which variables may stand there
 module _ (known : List ℕ → Type 0) where
-  abbrev pub Left-kept : Left → Type 0
-  Left-kept (number n) = Unit {0}
-  Left-kept (cell k) = k ≤ 31
-  Left-kept (variable v) = known v
+  abbrev pub LeftKept : Left → Type 0
+  LeftKept (number n) = Unit {0}
+  LeftKept (cell k) = k ≤ 31
+  LeftKept (variable v) = known v
 
-  abbrev pub Right-kept : Right → Type 0
-  Right-kept (fixed n) = Unit {0}
-  Right-kept (summed v s) = known v
+  abbrev pub RightKept : Right → Type 0
+  RightKept (fixed n) = Unit {0}
+  RightKept (summed v s) = known v
 
-  abbrev pub Argument-kept : Argument → Type 0
-  Argument-kept (held k) = k ≤ 31
-  Argument-kept (valued r) = Right-kept r
+  abbrev pub ArgumentKept : Argument → Type 0
+  ArgumentKept (held k) = k ≤ 31
+  ArgumentKept (valued r) = RightKept r
 
-  abbrev pub Comparison-kept : {R : Type 0} → Comparison R → Type 0
-  Comparison-kept (compared l c r) = Left-kept l × Right-kept r
+  abbrev pub ComparisonKept : {R : Type 0} → Comparison R → Type 0
+  ComparisonKept (compared l c r) = LeftKept l × RightKept r
 
 -- a fact has at most 3 arguments
 abbrev pub FactKept : {A : Type 0} → (A → Type 0) → Fact A → Type 0
@@ -73,27 +73,27 @@ FactKept P (bare p n) = Unit {0}
 FactKept P (applied p n xs) = AtMost 3 P xs
 
 module _ (known : List ℕ → Type 0) where
-  abbrev pub Item-kept : Item → Type 0
-  Item-kept (added f) = FactKept (Argument-kept known) f
-  Item-kept (told c) = Comparison-kept known c
-  Item-kept failing = Unit {0}
+  abbrev pub ItemKept : Item → Type 0
+  ItemKept (added f) = FactKept (ArgumentKept known) f
+  ItemKept (told c) = ComparisonKept known c
+  ItemKept failing = Unit {0}
 
-  abbrev pub Content-kept : ℕ → Content → Type 0
-  Content-kept most nil = Unit {0}
-  Content-kept most (items is) = AtMost most Item-kept is
+  abbrev pub ContentKept : ℕ → Content → Type 0
+  ContentKept most nil = Unit {0}
+  ContentKept most (items is) = AtMost most ItemKept is
 
   -- an alternative has at most 8 items, and a weight of at most 1,000
-  abbrev pub Alternative-kept : Alternative → Type 0
-  Alternative-kept (plainly c) = Content-kept 8 c
-  Alternative-kept (weighted n c) = (n ≤ 1000) × Content-kept 8 c
+  abbrev pub AlternativeKept : Alternative → Type 0
+  AlternativeKept (plainly c) = ContentKept 8 c
+  AlternativeKept (weighted n c) = (n ≤ 1000) × ContentKept 8 c
 
   -- a guard has at most 4 comparisons
-  abbrev pub Guard-kept : Guard → Type 0
-  Guard-kept none = Unit {0}
-  Guard-kept (guarded cs) = AtMost 4 (Comparison-kept known) cs
+  abbrev pub GuardKept : Guard → Type 0
+  GuardKept none = Unit {0}
+  GuardKept (guarded cs) = AtMost 4 (ComparisonKept known) cs
 
 abbrev pub HeadKept : Fact Left → Type 0
-HeadKept = FactKept (Left-kept (λ v. Unit {0}))
+HeadKept = FactKept (LeftKept (λ v. Unit {0}))
 
 -- a rule has at most 3 heads, kept and removed ones together
 abbrev pub HeadsKept : Some (Fact Left) → Arrow → Type 0
@@ -113,7 +113,7 @@ AtMostSix vs = (ns : List (List ℕ)) → Differ ns → Within ns vs → length 
 -- the variables of the guard and of the body, of at most 8 alternatives, stand in heads
 abbrev pub RuleKept : Rule → Type 0
 RuleKept (rule l hs a b) =
-    HeadsKept hs a × AtMostSix (rule_variables hs a) × Guard-kept (λ v. In v (rule_variables hs a)) (arrow_guard a) × AtMost 8 (Alternative-kept (λ v. In v (rule_variables hs a))) b
+    HeadsKept hs a × AtMostSix (rule_variables hs a) × GuardKept (λ v. In v (rule_variables hs a)) (arrow_guard a) × AtMost 8 (AlternativeKept (λ v. In v (rule_variables hs a))) b
 
 abbrev pub rule_name : Rule → List ℕ
 rule_name (rule l hs a b) = label_name l
@@ -132,4 +132,4 @@ BookKept b = (length b ≤ 32) × Differ (names b) × RulesKept b
 
 -- a goal has at most 16 items and no variable
 abbrev pub GoalKept : Content → Type 0
-GoalKept = Content-kept (λ v. ⊥) 16
+GoalKept = ContentKept (λ v. ⊥) 16

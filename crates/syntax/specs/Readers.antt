@@ -167,17 +167,17 @@ module _ {A : Type 0} (read : Scope → Reader A) (next : Scope → A → Scope)
   fact_of ((p, n), inl (u, (xs, v))) = applied p n xs
   fact_of ((p, n), inr u) = bare p n
 
-  unfoldable pub read-arguments : Scope → Reader (Some A)
-  read-arguments = parts first_left comma read next 3
+  unfoldable pub read_arguments : Scope → Reader (Some A)
+  read_arguments = parts first_left comma read next 3
 
-  abbrev pub read-fact : Scope → Reader (Fact A)
-  read-fact σ = via fact_of (both read_name (λ _. on_mark open_mark (both (read-arguments σ) (λ _. mark close_mark)) nothing))
+  abbrev pub read_fact : Scope → Reader (Fact A)
+  read_fact σ = via fact_of (both read_name (λ _. on_mark open_mark (both (read_arguments σ) (λ _. mark close_mark)) nothing))
 
 abbrev pub read_head : Scope → Reader (Fact Left)
-read_head = read-fact read_left next_left
+read_head = read_fact read_left next_left
 
 abbrev pub read_adding : Scope → Reader (Fact Argument)
-read_adding = read-fact read_argument same
+read_adding = read_fact read_argument same
 
 abbrev pub comparison_of : {R : Type 0} → ((l : Left) × ((c : R) × Right)) → Comparison R
 comparison_of (l, (c, r)) = compared l c r

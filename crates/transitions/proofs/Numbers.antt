@@ -13,7 +13,7 @@ use Rattle.words.specs.Lex as lex
 use Rattle.syntax.specs.Syntax.{W, name, var, num, weight, sign, kind, Note, fine, Said, plain, ahead}
 use Rattle.syntax.specs.Marks.{colon, true_word, fail_word}
 use Rattle.syntax.specs.Marking.{marked_word, starts_behind, marked_from, marked}
-use Rattle.syntax.specs.Parts.{Some, last, more, say-parts}
+use Rattle.syntax.specs.Parts.{Some, last, more, say_parts}
 use Rattle.syntax.specs.Tree as tree
 use Rattle.syntax.specs.Grammar.{Scope, same, same_name, true_name, fail_name, count, say_number}
 use Rattle.parse.specs.Flaws.{listed}
@@ -136,14 +136,14 @@ said_right (x ∷ a) b (every_more q k) = said_right a b k
 pub said_rest : (x : W × Note) (a : Said) → SmallSaid (x ∷ a) → SmallSaid a
 said_rest x a (every_more q k) = k
 
-pub said_part : {X : Type 0} (sep : ℕ) (say : Scope → X → Said) (σ : Scope) (k : ℕ) (xs : Some X) {x : X} → count xs ≤ k → SmallSaid (say-parts sep say same k σ xs) → In x (listed xs) → SmallSaid (say σ x)
+pub said_part : {X : Type 0} (sep : ℕ) (say : Scope → X → Said) (σ : Scope) (k : ℕ) (xs : Some X) {x : X} → count xs ≤ k → SmallSaid (say_parts sep say same k σ xs) → In x (listed xs) → SmallSaid (say σ x)
 said_part sep say σ zero (last x) l s m = absurd (omega arith)
 said_part sep say σ zero (more x xs) l s m = absurd (omega arith)
 said_part sep say σ (suc k) (last x) l s here = s
 said_part sep say σ (suc k) (last x) l s (there m) = elim m [ ]
-said_part sep say σ (suc k) (more x xs) l s here = said_left (say σ x) ((sign sep, fine) ∷ say-parts sep say same k σ xs) s
+said_part sep say σ (suc k) (more x xs) l s here = said_left (say σ x) ((sign sep, fine) ∷ say_parts sep say same k σ xs) s
 said_part sep say σ (suc k) (more x xs) l s (there m) =
-    said_part sep say σ k xs (omega arith) (said_rest (sign sep, fine) (say-parts sep say same k σ xs) (said_right (say σ x) ((sign sep, fine) ∷ say-parts sep say same k σ xs) s)) m
+    said_part sep say σ k xs (omega arith) (said_rest (sign sep, fine) (say_parts sep say same k σ xs) (said_right (say σ x) ((sign sep, fine) ∷ say_parts sep say same k σ xs) s)) m
 
 first_small : {w : W} {ws : List W} → Every SmallWord (w ∷ ws) → SmallWord w
 first_small (every_more k ks) = k

@@ -6,7 +6,7 @@ use Rattle.syntax.specs.Marks.{comma, dot, close_mark}
 use Rattle.syntax.specs.Tree as tree
 use Rattle.syntax.specs.Exact.{Accepts, Exact}
 use Rattle.syntax.specs.Grammar.{closed, same, say_left, say_right, say_argument, say_item, say_content, telling_code, say_book, say_goal}
-use Rattle.syntax.specs.Parts.{say-parts}
+use Rattle.syntax.specs.Parts.{say_parts}
 use Rattle.syntax.specs.Limits as limits
 use Rattle.syntax.specs.Limits.{BookKept, GoalKept}
 use Rattle.syntax.specs.Marking.{marked}
@@ -117,25 +117,25 @@ goal_read ps text is e =
 abbrev NoVariable : List ℕ → Type 0
 NoVariable v = ⊥
 
-left_plain : (l : tree.Left) → limits.Left-kept NoVariable l → SmallSaid (say_left closed l) → PlainTerm (left_term [] l)
+left_plain : (l : tree.Left) → limits.LeftKept NoVariable l → SmallSaid (say_left closed l) → PlainTerm (left_term [] l)
 left_plain (tree.number n) k s = number_within n s
 left_plain (tree.cell c) k s = tt
 left_plain (tree.variable v) k s = absurd k
 
-right_plain : (r : tree.Right) → limits.Right-kept NoVariable r → SmallSaid (say_right closed r) → PlainNumber (argument_term [] (tree.valued r))
+right_plain : (r : tree.Right) → limits.RightKept NoVariable r → SmallSaid (say_right closed r) → PlainNumber (argument_term [] (tree.valued r))
 right_plain (tree.fixed n) k s = number_within n s
 right_plain (tree.summed v t) k s = absurd k
 
-argument_plain : (a : tree.Argument) → limits.Argument-kept NoVariable a → SmallSaid (say_argument closed a) → PlainTerm (argument_term [] a)
+argument_plain : (a : tree.Argument) → limits.ArgumentKept NoVariable a → SmallSaid (say_argument closed a) → PlainTerm (argument_term [] a)
 argument_plain (tree.held c) k s = tt
 argument_plain (tree.valued (tree.fixed n)) k s = number_within n s
 argument_plain (tree.valued (tree.summed v t)) k s = absurd k
 
-item_plain : (ps : List Predicate) (i : tree.Item) → limits.Item-kept NoVariable i → SmallSaid (say_item closed i) → PlainItem (numbered_item ps (item_of [] i))
+item_plain : (ps : List Predicate) (i : tree.Item) → limits.ItemKept NoVariable i → SmallSaid (say_item closed i) → PlainItem (numbered_item ps (item_of [] i))
 item_plain ps (tree.added (tree.bare p n)) k s = every_none
 item_plain ps (tree.added (tree.applied p n xs)) k (every_more a (every_more b s)) =
-    every_map (argument_term []) (listed xs) (λ x m. argument_plain x (of_each (limits.Argument-kept NoVariable) xs k.1 m)
-    (said_part comma say_argument closed 3 xs k.0 (said_left (say-parts comma say_argument same 3 closed xs) ((sign close_mark, fine) ∷ []) s) m))
+    every_map (argument_term []) (listed xs) (λ x m. argument_plain x (of_each (limits.ArgumentKept NoVariable) xs k.1 m)
+    (said_part comma say_argument closed 3 xs k.0 (said_left (say_parts comma say_argument same 3 closed xs) ((sign close_mark, fine) ∷ []) s) m))
 item_plain ps (tree.told (tree.compared l c r)) k s = (
   left_plain l k.0 (said_left (say_left closed l) ((sign (telling_code c), fine) ∷ say_right closed r) s),
   right_plain r k.1 (said_rest (sign (telling_code c), fine) (say_right closed r) (said_right (say_left closed l) ((sign (telling_code c), fine) ∷ say_right closed r) s)),
@@ -149,7 +149,7 @@ content_plain ps (tree.items is) k s =
     let a = in_map (numbered_item ps) (map (item_of []) (listed is)) m in
     let b = in_map (item_of []) (listed is) a.1 in
     let e : numbered_item ps (item_of [] b.0) ≡ i = ap (numbered_item ps) b.2 ∙ a.2 in
-    subst PlainItem e (item_plain ps b.0 (of_each (limits.Item-kept NoVariable) is k.1 b.1) (said_part comma say_item closed 16 is k.0 s b.1)))
+    subst PlainItem e (item_plain ps b.0 (of_each (limits.ItemKept NoVariable) is k.1 b.1) (said_part comma say_item closed 16 is k.0 s b.1)))
 
 goal_fits : (ps : List Predicate) (c : tree.Content) → GoalKept c → SmallSaid (say_goal c) → FitGoal (goal_items ps (content_of [] c))
 unfolding say_goal

@@ -49,7 +49,7 @@ every_map f (x ∷ xs) g = every_more (g x here) (every_map f xs (λ y m. g y (t
 
 -- the cells of items
 module _ (known : List ℕ → Type 0) (vs : List (List ℕ)) where
-  left_known : (l : tree.Left) → limits.Left-kept known l → KnownTerm 32 (left_term vs l)
+  left_known : (l : tree.Left) → limits.LeftKept known l → KnownTerm 32 (left_term vs l)
   left_known (tree.number n) k = tt
   left_known (tree.cell c) k = omega arith
   left_known (tree.variable v) k = tt
@@ -58,19 +58,19 @@ module _ (known : List ℕ → Type 0) (vs : List (List ℕ)) where
   sum_known i option.None = tt
   sum_known i (option.Some n) = tt
 
-  argument_known : (a : tree.Argument) → limits.Argument-kept known a → KnownTerm 32 (argument_term vs a)
+  argument_known : (a : tree.Argument) → limits.ArgumentKept known a → KnownTerm 32 (argument_term vs a)
   argument_known (tree.held c) k = omega arith
   argument_known (tree.valued (tree.fixed n)) k = tt
   argument_known (tree.valued (tree.summed v s)) k = sum_known (index_of vs v) (sum_value s)
 
-  pub item_known : (ps : List Predicate) (i : tree.Item) → limits.Item-kept known i → KnownItem 32 (numbered_item ps (item_of vs i))
+  pub item_known : (ps : List Predicate) (i : tree.Item) → limits.ItemKept known i → KnownItem 32 (numbered_item ps (item_of vs i))
   item_known ps (tree.added (tree.bare p n)) k = every_none
-  item_known ps (tree.added (tree.applied p n xs)) k = every_map (argument_term vs) (listed xs) (λ a m. argument_known a (of_each (limits.Argument-kept known) xs k.1 m))
+  item_known ps (tree.added (tree.applied p n xs)) k = every_map (argument_term vs) (listed xs) (λ a m. argument_known a (of_each (limits.ArgumentKept known) xs k.1 m))
   item_known ps (tree.told (tree.compared l c r)) k = left_known l k.0
   item_known ps tree.failing k = tt
 
   -- the items of a content: so many at most, and their cells
-  pub content_few : (ps : List Predicate) (most : ℕ) (c : tree.Content) → limits.Content-kept known most c → length (goal_items ps (content_of vs c)) ≤ most
+  pub content_few : (ps : List Predicate) (most : ℕ) (c : tree.Content) → limits.ContentKept known most c → length (goal_items ps (content_of vs c)) ≤ most
   content_few ps most tree.nil k = omega arith
   content_few ps most (tree.items is) k =
       let a = length-map (map (item_of vs) (listed is)) (numbered_item ps) in
@@ -79,19 +79,19 @@ module _ (known : List ℕ → Type 0) (vs : List (List ℕ)) where
       let d = k.0 in
       omega arith
 
-  pub content_known : (ps : List Predicate) (most : ℕ) (c : tree.Content) → limits.Content-kept known most c → (i : Item) → In i (goal_items ps (content_of vs c)) → KnownItem 32 i
+  pub content_known : (ps : List Predicate) (most : ℕ) (c : tree.Content) → limits.ContentKept known most c → (i : Item) → In i (goal_items ps (content_of vs c)) → KnownItem 32 i
   content_known ps most tree.nil k i m = elim m [ ]
   content_known ps most (tree.items is) k i m =
       let a = in_map (numbered_item ps) (map (item_of vs) (listed is)) m in
       let b = in_map (item_of vs) (listed is) a.1 in
       let e : numbered_item ps (item_of vs b.0) ≡ i = ap (numbered_item ps) b.2 ∙ a.2 in
-      subst (KnownItem 32) e (item_known ps b.0 (of_each (limits.Item-kept known) is k.1 b.1))
+      subst (KnownItem 32) e (item_known ps b.0 (of_each (limits.ItemKept known) is k.1 b.1))
 
-  alternative_few : (ps : List Predicate) (a : tree.Alternative) → limits.Alternative-kept known a → length (numbered_alternative ps (alternative_of vs a)).items ≤ 8
+  alternative_few : (ps : List Predicate) (a : tree.Alternative) → limits.AlternativeKept known a → length (numbered_alternative ps (alternative_of vs a)).items ≤ 8
   alternative_few ps (tree.plainly c) k = content_few ps 8 c k
   alternative_few ps (tree.weighted n c) k = content_few ps 8 c k.1
 
-  alternative_known : (ps : List Predicate) (a : tree.Alternative) → limits.Alternative-kept known a → (i : Item) → In i (numbered_alternative ps (alternative_of vs a)).items → KnownItem 32 i
+  alternative_known : (ps : List Predicate) (a : tree.Alternative) → limits.AlternativeKept known a → (i : Item) → In i (numbered_alternative ps (alternative_of vs a)).items → KnownItem 32 i
   alternative_known ps (tree.plainly c) k i m = content_known ps 8 c k i m
   alternative_known ps (tree.weighted n c) k i m = content_known ps 8 c k.1 i m
 
@@ -210,7 +210,7 @@ of_body ps (tree.rule l hs r b) a k m =
     let w = in_map (numbered_alternative ps) (map (alternative_of vs) (listed b)) m in
     let u = in_map (alternative_of vs) (listed b) w.1 in
     let e : numbered_alternative ps (alternative_of vs u.0) ≡ a = ap (numbered_alternative ps) u.2 ∙ w.2 in
-    let c : limits.Alternative-kept known u.0 = of_each (limits.Alternative-kept known) b k.3.1 u.1 in
+    let c : limits.AlternativeKept known u.0 = of_each (limits.AlternativeKept known) b k.3.1 u.1 in
     subst (λ (z : Alternative). (length z.items ≤ 8) × ((i : Item) → In i z.items → KnownItem 32 i)) e (alternative_few known vs ps u.0 c, alternative_known known vs ps u.0 c)
 
 pub rule_items : (ps : List Predicate) (t : tree.Rule) (a : Alternative) → limits.RuleKept t → In a (numbered_rule ps (rule_model t)).body → length a.items ≤ 8

@@ -9,7 +9,7 @@ use Rattle.tree.specs.Laws.{Once, Covering}
 use Rattle.tree.proofs.Fronts.{no_end}
 use Rattle.tree.proofs.Counts.{delta, delta_same, delta_none, delta_cases, times, times_append, children_push, push_nil, has_here, has_there, has_nil, has_cases, has_found, has_counts}
 use Rattle.tree.proofs.Tallies.{EndedEdge, Walked, children_at, all_children, paths, leaves_of, Tally}
-use Rattle.tree.proofs.Wholes.{once_from, Beyond, reach, once, edge-of-path, leaves_of_ends, leaves_of_times, leaves_of_has, all_children_push, all_children_nil}
+use Rattle.tree.proofs.Wholes.{once_from, Beyond, reach, once, edge_of_path, leaves_of_ends, leaves_of_times, leaves_of_has, all_children_push, all_children_nil}
 
 -- a path is empty or has a last alternative
 snoc : (p : Path) → (p ≡ []) ⊎ ((q : Path) × (i : ℕ) × (p ≡ q ++ (i ∷ [])))
@@ -104,7 +104,7 @@ module _ {S E : Type 0} (M : Machine S E) (left : List Path) (done : List (Ended
     where
       go : (p : Path) (e : E) → Ends M p e → (1 ≤ times p (paths done)) ⊎ Beyond left p → (q : Path) × (r : Path) × Has ahead q × (p ≡ q ++ r)
       go p e w (inl h) =
-          let f = edge-of-path M left done walked covers p w.0 w.1 (leaf e) h w.2 tt in
+          let f = edge_of_path M left done walked covers p w.0 w.1 (leaf e) h w.2 tt in
           let l = has_counts (λ (x : Path × E). x.0) (f.0.path, e) (leaves_of done) (leaves_of_has e f.0 done f.1 f.4) in
           let a = times_append f.0.path (map (λ (x : Path × E). x.0) (leaves_of done)) left in
           let g : Has ahead f.0.path = times_has f.0.path ahead (omega arith) in

@@ -149,8 +149,8 @@ module _ {S E : Type 0} (M : Machine S E) where
         omega arith
 
     -- the ended edge of a path that is among them and whose walk stops
-    pub edge-of-path : (p : Path) (n : ℕ) (s : S) (x : Standing E) → 1 ≤ times p (paths done) → Walks M p n s x → Stops x → (k : EndedEdge E) × Has done k × (k.path ≡ p) × (k.steps ≡ n) × (k.standing ≡ x)
-    edge-of-path p n s x h w halt =
+    pub edge_of_path : (p : Path) (n : ℕ) (s : S) (x : Standing E) → 1 ≤ times p (paths done) → Walks M p n s x → Stops x → (k : EndedEdge E) × Has done k × (k.path ≡ p) × (k.steps ≡ n) × (k.standing ≡ x)
+    edge_of_path p n s x h w halt =
         let f = has_found (λ (k : EndedEdge E). k.path) p done h in
         let k = f.0 in
         let d = all-has (Walked M) done k walked f.1 in
@@ -174,7 +174,7 @@ module _ {S E : Type 0} (M : Machine S E) where
 
         go : (1 ≤ times p (paths done)) ⊎ Beyond left p → (1 ≤ times (p ++ (i ∷ [])) (paths done)) ⊎ Beyond left (p ++ (i ∷ []))
         go (inl h) =
-            let f = edge-of-path p n s (choice m) h w tt in
+            let f = edge_of_path p n s (choice m) h w tt in
             let k = f.0 in
             let a : times (p ++ (i ∷ [])) (children_at k.path k.standing) ≡ times (p ++ (i ∷ [])) (children p m) = ap (λ (st : Standing E). times (p ++ (i ∷ [])) (children_at k.path st)) f.4 ∙ ap (λ (q : Path). times (p ++ (i ∷ [])) (children q m)) f.2 in
             let b = children_has p i m low high in
@@ -205,13 +205,13 @@ module _ {S E : Type 0} (M : Machine S E) where
     complete : Complete M (leaves_of done) (steps_of done)
     complete = record {
       has = λ p e w.
-          let f = edge-of-path [] done walked covers p w.0 w.1 (leaf e) (least w.2) w.2 tt in
+          let f = edge_of_path [] done walked covers p w.0 w.1 (leaf e) (least w.2) w.2 tt in
           subst (λ (q : Path). Has (leaves_of done) (q, e)) f.2 (leaves_of_has e f.0 done f.1 f.4);
       only = λ p e h. all-has (λ (l : Path × E). Ends M l.0 l.1) (leaves_of done) (p, e) (leaves_of_ends done walked) h;
       once = once_from (map (λ (l : Path × E). l.0) (leaves_of done)) (λ p. let a = leaves_of_times p done in let b = once [] done walked covers p in omega arith);
       edges = map edge_of done;
       has_edge = λ p n w.
-          let f = edge-of-path [] done walked covers p n w.0 w.1 (least w.2) w.2 w.3 in
+          let f = edge_of_path [] done walked covers p n w.0 w.1 (least w.2) w.2 w.3 in
           let P : ℕ → Type 0 = λ j. Has (map edge_of done) (p, j) in
           let Q : Path → Type 0 = λ q. Has (map edge_of done) (q, f.0.steps) in
           subst P f.3 (subst Q f.2 (edges_has f.0 done f.1));

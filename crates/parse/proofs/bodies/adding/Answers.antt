@@ -1,14 +1,14 @@
 use Rattle.std.proofs.Common.{[], drop, refl}
 use Rattle.syntax.specs.Grammar.{same}
 use Rattle.syntax.specs.Tree.{bare, applied}
-use Rattle.syntax.specs.Readers.{read_name, read_argument, read-arguments}
+use Rattle.syntax.specs.Readers.{read_name, read_argument, read_arguments}
 use Rattle.parse.specs.Tokens.{words}
 use Rattle.parse.specs.Flaws.{IsAs}
 use Rattle.parse.specs.Model.{mention}
 use Rattle.parse.specs.Flat.{argument_term, mention_of}
 use Rattle.parse.specs.Scopes.{scope, scope_variables}
 use Rattle.parse.proofs.Faults.{exit}
-use Rattle.parse.proofs.Chains.{fact-bare, fact-arguments, fact-close, fact-all}
+use Rattle.parse.proofs.Chains.{fact_bare, fact_arguments, fact_close, fact_all}
 use Rattle.parse.proofs.bodies.adding.Goals as goal
 
 pub returns-in-default : goal.returns-in-default
@@ -16,7 +16,7 @@ returns-in-default c =
     let n = c.in-ok-place.ensures in
     let σ = scope c.args.scope in
     let w = drop c.args.at (words c.args.ts.now) in
-    (bare n.0.0 n.0.1, λ i. record { place = n.1.0 i; name = n.1.1 i; arguments = [] }, fact-bare read_argument same read_name (read-arguments read_argument same σ) w n.2 c.in-default.ensures)
+    (bare n.0.0 n.0.1, λ i. record { place = n.1.0 i; name = n.1.1 i; arguments = [] }, fact_bare read_argument same read_name (read_arguments read_argument same σ) w n.2 c.in-default.ensures)
 
 pub returns-in-err-arguments : goal.returns-in-err-arguments
 returns-in-err-arguments c =
@@ -24,7 +24,7 @@ returns-in-err-arguments c =
     let s = c.in-Some.ensures in
     let σ = scope c.args.scope in
     let w = drop c.args.at (words c.args.ts.now) in
-    exit (IsAs mention (mention_of (argument_term (scope_variables c.args.scope)))) c.from-residual-in-err-arguments.result c.from-residual-in-err-arguments.ensures.1 (fact-arguments read_argument same read_name (read-arguments read_argument same σ) w n.2 s.0 s.1 c.in-err-arguments.ensures)
+    exit (IsAs mention (mention_of (argument_term (scope_variables c.args.scope)))) c.from-residual-in-err-arguments.result c.from-residual-in-err-arguments.ensures.1 (fact_arguments read_argument same read_name (read_arguments read_argument same σ) w n.2 s.0 s.1 c.in-err-arguments.ensures)
 
 pub returns-in-err-end : goal.returns-in-err-end
 returns-in-err-end c =
@@ -33,7 +33,7 @@ returns-in-err-end c =
     let a = c.in-ok-arguments.ensures in
     let σ = scope c.args.scope in
     let w = drop c.args.at (words c.args.ts.now) in
-    exit (IsAs mention (mention_of (argument_term (scope_variables c.args.scope)))) c.from-residual-in-err-end.result c.from-residual-in-err-end.ensures.1 (fact-close read_argument same read_name (read-arguments read_argument same σ) w n.2 s.0 s.1 a.2 c.in-err-end.ensures)
+    exit (IsAs mention (mention_of (argument_term (scope_variables c.args.scope)))) c.from-residual-in-err-end.result c.from-residual-in-err-end.ensures.1 (fact_close read_argument same read_name (read_arguments read_argument same σ) w n.2 s.0 s.1 a.2 c.in-err-end.ensures)
 
 pub returns : goal.returns
 returns c =
@@ -42,4 +42,4 @@ returns c =
     let a = c.in-ok-arguments.ensures in
     let σ = scope c.args.scope in
     let w = drop c.args.at (words c.args.ts.now) in
-    (applied n.0.0 n.0.1 a.0, λ i. record { place = n.1.0 i; name = n.1.1 i; arguments = a.1 i }, fact-all read_argument same read_name (read-arguments read_argument same σ) w n.2 s.0 s.1 a.2 c.in-ok-end.ensures)
+    (applied n.0.0 n.0.1 a.0, λ i. record { place = n.1.0 i; name = n.1.1 i; arguments = a.1 i }, fact_all read_argument same read_name (read_arguments read_argument same σ) w n.2 s.0 s.1 a.2 c.in-ok-end.ensures)

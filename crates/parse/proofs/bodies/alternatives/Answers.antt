@@ -8,7 +8,7 @@ use Rattle.parse.specs.Flat.{alternative_of}
 use Rattle.parse.specs.Flaws.{AreAs}
 use Rattle.parse.specs.Scopes.{scope, scope_variables}
 use Rattle.parse.proofs.Faults.{exit}
-use Rattle.parse.proofs.Loops.{gathers_none, gathers_over, gathers_fault, gathers-stop, gathers-next, vec_grown}
+use Rattle.parse.proofs.Loops.{gathers_none, gathers_over, gathers_fault, gathers_stop, gathers_next, vec_grown}
 use Rattle.parse.proofs.bodies.alternatives.Goals as goal
 
 pub loop-turn-init : goal.loop-turn-init
@@ -23,14 +23,14 @@ pub returns-in-default : goal.returns-in-default
 returns-in-default c =
     let k = c.in-ok-alternative.ensures in
     let grown = vec_grown alternative (vec_items c.loop-turn.list) c.in-ok-alternative.alternative c.in-ok-push.ensures.items k.1 in
-    gathers-stop c.loop-turn.invariant c.loop-turn-test.true k.0 c.in-ok-alternative.end k.2 _ grown c.in-default.ensures
+    gathers_stop c.loop-turn.invariant c.loop-turn-test.true k.0 c.in-ok-alternative.end k.2 _ grown c.in-default.ensures
 
 pub loop-turn-preserved : goal.loop-turn-preserved
 loop-turn-preserved c =
     let k = c.in-ok-alternative.ensures in
     let s = c.in-Some.ensures in
     let grown = vec_grown alternative (vec_items c.loop-turn.list) c.in-ok-alternative.alternative c.in-ok-push.ensures.items k.1 in
-    gathers-next c.loop-turn.invariant c.loop-turn-test.true k.0 c.in-ok-alternative.end k.2 _ grown c.in-Some.next s.0 s.1
+    gathers_next c.loop-turn.invariant c.loop-turn-test.true k.0 c.in-ok-alternative.end k.2 _ grown c.in-Some.next s.0 s.1
 
 pub returns : goal.returns
 returns c = gathers_over c.loop-turn.invariant c.loop-turn-test.false c.one_too_many.result c.one_too_many.ensures

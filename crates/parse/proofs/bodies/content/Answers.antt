@@ -6,7 +6,7 @@ use Rattle.syntax.specs.Tree as tree
 use Rattle.syntax.specs.Readers.{read_items}
 use Rattle.parse.specs.Model.{item}
 use Rattle.parse.specs.Flat.{IsContent}
-use Rattle.parse.proofs.Chains.{content_true, content-led, content-items}
+use Rattle.parse.proofs.Chains.{content_true, content_led, content_items}
 use Rattle.parse.proofs.bodies.content.Goals as goal
 
 pub returns-in-Some : goal.returns-in-Some
@@ -16,9 +16,9 @@ returns-in-Some c =
 
 pub returns-in-err-list : goal.returns-in-err-list
 returns-in-err-list c =
-    exit (IsContent (scope_variables c.args.scope)) c.from-residual.result c.from-residual.ensures.1 (content-led (read_items c.args.most (scope c.args.scope)) (drop c.args.at (words c.args.ts.now)) c.in-default.ensures c.in-err-list.ensures)
+    exit (IsContent (scope_variables c.args.scope)) c.from-residual.result c.from-residual.ensures.1 (content_led (read_items c.args.most (scope c.args.scope)) (drop c.args.at (words c.args.ts.now)) c.in-default.ensures c.in-err-list.ensures)
 
 pub returns : goal.returns
 returns c =
     let k = c.in-ok-list.ensures in
-    (tree.items k.0, k.1, content-items (read_items c.args.most (scope c.args.scope)) (drop c.args.at (words c.args.ts.now)) c.in-default.ensures k.2)
+    (tree.items k.0, k.1, content_items (read_items c.args.most (scope c.args.scope)) (drop c.args.at (words c.args.ts.now)) c.in-default.ensures k.2)

@@ -7,7 +7,7 @@ use Rattle.syntax.specs.Readers.{read_adding, read_tell}
 use Rattle.parse.specs.Flaws.{IsAs}
 use Rattle.parse.specs.Model.{item, add, tell}
 use Rattle.parse.specs.Flat.{item_of}
-use Rattle.parse.proofs.Chains.{item_fact, item-led, item-told}
+use Rattle.parse.proofs.Chains.{item_fact, item_led, item_told}
 use Rattle.parse.proofs.bodies.item.Goals as goal
 
 pub returns-then-name-ahead : goal.returns-then-name-ahead
@@ -19,10 +19,10 @@ returns-then-name-ahead c =
 pub returns-in-err-comparison : goal.returns-in-err-comparison
 returns-in-err-comparison c =
     let σ = scope c.args.scope in
-    exit (IsAs item (item_of (scope_variables c.args.scope))) c.from-residual-in-err-comparison.result c.from-residual-in-err-comparison.ensures.1 (item-led (read_adding σ) (read_tell σ) (drop c.args.at (words c.args.ts.now)) (sym c.if-name-ahead.ensures) c.in-default.ensures c.in-err-comparison.ensures)
+    exit (IsAs item (item_of (scope_variables c.args.scope))) c.from-residual-in-err-comparison.result c.from-residual-in-err-comparison.ensures.1 (item_led (read_adding σ) (read_tell σ) (drop c.args.at (words c.args.ts.now)) (sym c.if-name-ahead.ensures) c.in-default.ensures c.in-err-comparison.ensures)
 
 pub returns : goal.returns
 returns c =
     let k = c.in-ok-comparison.ensures in
     let σ = scope c.args.scope in
-    (tree.told k.0, ap tell k.1, item-told (read_adding σ) (read_tell σ) (drop c.args.at (words c.args.ts.now)) (sym c.if-name-ahead.ensures) c.in-default.ensures k.2)
+    (tree.told k.0, ap tell k.1, item_told (read_adding σ) (read_tell σ) (drop c.args.at (words c.args.ts.now)) (sym c.if-name-ahead.ensures) c.in-default.ensures k.2)

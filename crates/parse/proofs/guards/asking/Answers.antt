@@ -7,7 +7,7 @@ use Rattle.parse.specs.Model.{asking}
 use Rattle.parse.specs.Flat.{asking_of}
 use Rattle.parse.specs.Scopes.{scope, scope_variables}
 use Rattle.parse.proofs.Faults.{exit}
-use Rattle.parse.proofs.Chains.{comparison-second, comparison-third, comparison-all}
+use Rattle.parse.proofs.Chains.{comparison_second, comparison_third, comparison_all}
 use Rattle.parse.proofs.guards.asking.Goals as goal
 
 pub returns-in-err-relation : goal.returns-in-err-relation
@@ -15,7 +15,7 @@ returns-in-err-relation c =
     let l = c.in-ok-left.ensures in
     let σ = scope c.args.scope in
     let w = drop c.args.at (words c.args.ts.now) in
-    exit (IsAs asking (asking_of (scope_variables c.args.scope))) c.from-residual-in-err-relation.result c.from-residual-in-err-relation.ensures.1 (comparison-second (read_left σ) read_relation (read_right σ) w l.2 c.in-err-relation.ensures)
+    exit (IsAs asking (asking_of (scope_variables c.args.scope))) c.from-residual-in-err-relation.result c.from-residual-in-err-relation.ensures.1 (comparison_second (read_left σ) read_relation (read_right σ) w l.2 c.in-err-relation.ensures)
 
 pub returns-in-err-right : goal.returns-in-err-right
 returns-in-err-right c =
@@ -23,7 +23,7 @@ returns-in-err-right c =
     let t = c.in-ok-relation.ensures in
     let σ = scope c.args.scope in
     let w = drop c.args.at (words c.args.ts.now) in
-    exit (IsAs asking (asking_of (scope_variables c.args.scope))) c.from-residual-in-err-right.result c.from-residual-in-err-right.ensures.1 (comparison-third (read_left σ) read_relation (read_right σ) w l.2 t.2 c.in-err-right.ensures)
+    exit (IsAs asking (asking_of (scope_variables c.args.scope))) c.from-residual-in-err-right.result c.from-residual-in-err-right.ensures.1 (comparison_third (read_left σ) read_relation (read_right σ) w l.2 t.2 c.in-err-right.ensures)
 
 pub returns : goal.returns
 returns c =
@@ -32,4 +32,4 @@ returns c =
     let r = c.in-ok-right.ensures in
     let σ = scope c.args.scope in
     let w = drop c.args.at (words c.args.ts.now) in
-    (compared l.0 t.0 r.0, λ i. record { left = l.1 i; relation = t.1 i; right = r.1 i }, comparison-all (read_left σ) read_relation (read_right σ) w l.2 t.2 r.2)
+    (compared l.0 t.0 r.0, λ i. record { left = l.1 i; relation = t.1 i; right = r.1 i }, comparison_all (read_left σ) read_relation (read_right σ) w l.2 t.2 r.2)

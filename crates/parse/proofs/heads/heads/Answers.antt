@@ -8,7 +8,7 @@ use Rattle.parse.specs.Model.{mention}
 use Rattle.parse.specs.Flat.{head_mention, few_mentions, head_mentions}
 use Rattle.parse.specs.Scopes.{variables}
 use Rattle.parse.proofs.Loops.{few_grown, few_longer}
-use Rattle.parse.proofs.Growing.{growing_none, growing_over, growing_fault, growing-stop, growing-next, exit_growing, head_extends}
+use Rattle.parse.proofs.Growing.{growing_none, growing_over, growing_fault, growing_stop, growing_next, exit_growing, head_extends}
 use Rattle.parse.proofs.heads.heads.Goals as goal
 
 pub loop-turn-init : goal.loop-turn-init
@@ -23,14 +23,14 @@ pub returns-in-default : goal.returns-in-default
 returns-in-default c =
     let k = c.in-ok-head.ensures in
     let room : c.loop-turn.-turn < 3 = (let r = c.args.most.few in omega (arith, c.loop-turn-test.true)) in
-    growing-stop c.loop-turn.invariant.0 c.loop-turn-test.true head_extends k.0 _ (mention c.in-ok-head.head) k.1 k.2 c.in-ok-head.end k.3 _ (few_grown mention c.loop-turn.list c.in-ok-head.head c.with-list.result c.loop-turn.-turn c.loop-turn.invariant.1 room c.with-list.ensures _ refl) c.in-default.ensures
+    growing_stop c.loop-turn.invariant.0 c.loop-turn-test.true head_extends k.0 _ (mention c.in-ok-head.head) k.1 k.2 c.in-ok-head.end k.3 _ (few_grown mention c.loop-turn.list c.in-ok-head.head c.with-list.result c.loop-turn.-turn c.loop-turn.invariant.1 room c.with-list.ensures _ refl) c.in-default.ensures
 
 pub loop-turn-preserved : goal.loop-turn-preserved
 loop-turn-preserved c =
     let k = c.in-ok-head.ensures in
     let s = c.in-Some.ensures in
     let room : c.loop-turn.-turn < 3 = (let r = c.args.most.few in omega (arith, c.loop-turn-test.true)) in (
-      growing-next c.loop-turn.invariant.0 c.loop-turn-test.true head_extends k.0 _ (mention c.in-ok-head.head) k.1 k.2 c.in-ok-head.end k.3 _ (few_grown mention c.loop-turn.list c.in-ok-head.head c.with-list.result c.loop-turn.-turn c.loop-turn.invariant.1 room c.with-list.ensures _ refl) c.in-Some.next s.0 s.1,
+      growing_next c.loop-turn.invariant.0 c.loop-turn-test.true head_extends k.0 _ (mention c.in-ok-head.head) k.1 k.2 c.in-ok-head.end k.3 _ (few_grown mention c.loop-turn.list c.in-ok-head.head c.with-list.result c.loop-turn.-turn c.loop-turn.invariant.1 room c.with-list.ensures _ refl) c.in-Some.next s.0 s.1,
       few_longer c.loop-turn.list c.in-ok-head.head c.with-list.result c.loop-turn.-turn c.loop-turn.invariant.1 room c.with-list.ensures,
     )
 

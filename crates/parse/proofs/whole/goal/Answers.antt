@@ -7,7 +7,7 @@ use Rattle.parse.specs.Flat.{content_of}
 use Rattle.parse.specs.Scopes.{scope, scope_variables}
 use Rattle.parse.proofs.Places.{drop_end}
 use Rattle.parse.proofs.Faults.{led}
-use Rattle.parse.proofs.Chains.{ask_led, goal-led, stop-led, goal-more, goal-all}
+use Rattle.parse.proofs.Chains.{ask_led, goal_led, stop_led, goal_more, goal_all}
 use Rattle.parse.proofs.Rows.{some_word, exit_goal}
 use Rattle.parse.proofs.whole.goal.Goals as goal
 
@@ -20,7 +20,7 @@ unfolding read_goal
 returns-in-err-items c =
     let ws = words c.args.ts.now in
     let s = ap (λ x. read_content 16 (scope x) (drop c.in-ok-next.next ws)) (sym c.closed.ensures) in
-    exit_goal c.from-residual-in-err-items.result c.from-residual-in-err-items.ensures.1 (goal-led (read_content 16 closed) ws c.in-ok-next.ensures (led c.in-err-items.ensures (λ r e. s ∙ e) (λ n w r e. s ∙ e)))
+    exit_goal c.from-residual-in-err-items.result c.from-residual-in-err-items.ensures.1 (goal_led (read_content 16 closed) ws c.in-ok-next.ensures (led c.in-err-items.ensures (λ r e. s ∙ e) (λ n w r e. s ∙ e)))
 
 pub returns-in-err-end : goal.returns-in-err-end
 unfolding read_goal
@@ -28,7 +28,7 @@ returns-in-err-end c =
     let ws = words c.args.ts.now in
     let k = c.in-ok-items.ensures in
     let s = ap (λ x. read_content 16 (scope x) (drop c.in-ok-next.next ws)) (sym c.closed.ensures) in
-    exit_goal c.from-residual-in-err-end.result c.from-residual-in-err-end.ensures.1 (stop-led (read_content 16 closed) ws c.in-ok-next.ensures (s ∙ k.2) c.in-err-end.ensures)
+    exit_goal c.from-residual-in-err-end.result c.from-residual-in-err-end.ensures.1 (stop_led (read_content 16 closed) ws c.in-ok-next.ensures (s ∙ k.2) c.in-err-end.ensures)
 
 pub returns-then-end-ts : goal.returns-then-end-ts
 unfolding read_goal
@@ -37,7 +37,7 @@ returns-then-end-ts c =
     let k = c.in-ok-items.ensures in
     let s = ap (λ x. read_content 16 (scope x) (drop c.in-ok-next.next ws)) (sym c.closed.ensures) in
     let w = some_word c.args.ts.now c.in-ok-end.end c.if-end-ts.true in
-    record { found = goal-more (read_content 16 closed) ws c.in-ok-next.ensures (s ∙ k.2) c.in-ok-end.ensures w.0 w.1 w.2 }
+    record { found = goal_more (read_content 16 closed) ws c.in-ok-next.ensures (s ∙ k.2) c.in-ok-end.ensures w.0 w.1 w.2 }
 
 pub returns : goal.returns
 unfolding read_goal
@@ -45,4 +45,4 @@ returns c =
     let ws = words c.args.ts.now in
     let k = c.in-ok-items.ensures in
     let s = ap (λ x. read_content 16 (scope x) (drop c.in-ok-next.next ws)) (sym c.closed.ensures) in
-    (k.0, ap (λ x. content_of (scope_variables x) k.0) (sym c.closed.ensures) ∙ k.1, goal-all (read_content 16 closed) ws c.in-ok-next.ensures (s ∙ k.2) c.in-ok-end.ensures (drop_end c.args.ts.now c.in-ok-end.end c.if-end-ts.false))
+    (k.0, ap (λ x. content_of (scope_variables x) k.0) (sym c.closed.ensures) ∙ k.1, goal_all (read_content 16 closed) ws c.in-ok-next.ensures (s ∙ k.2) c.in-ok-end.ensures (drop_end c.args.ts.now c.in-ok-end.end c.if-end-ts.false))

@@ -9,7 +9,7 @@ use Rattle.parse.specs.Flaws.{Faulted}
 use Rattle.parse.specs.Rules.{rule_view, rule_model}
 use Rattle.parse.proofs.Places.{drop_end}
 use Rattle.parse.proofs.Loops.{vec_grown}
-use Rattle.parse.proofs.Rows.{collects_none, collects_end, collects-over, collects-fault, collects-next, some_word, exit_book, label_joins}
+use Rattle.parse.proofs.Rows.{collects_none, collects_end, collects_over, collects_fault, collects_next, some_word, exit_book, label_joins}
 use Rattle.parse.proofs.whole.rules.Goals as goal
 
 pub loop-turn-init : goal.loop-turn-init
@@ -25,14 +25,14 @@ returns-then-at-ts-2 c = collects_end c.loop-turn.invariant (drop_end c.args.ts.
 pub returns-in-err-rule : goal.returns-in-err-rule
 returns-in-err-rule c =
     let w = some_word c.args.ts.now c.loop-turn.at c.if-at-ts.false in
-    exit_book c.from-residual.result c.from-residual.ensures.1 (collects-fault c.loop-turn.invariant w.0 w.1 w.2 c.loop-turn-test.true (subst (λ l. Faulted (words c.args.ts.now) c.in-err-rule.field-0.0 (read_rule (spelled l) (drop c.loop-turn.at (words c.args.ts.now)))) c.deref.ensures.value c.in-err-rule.ensures))
+    exit_book c.from-residual.result c.from-residual.ensures.1 (collects_fault c.loop-turn.invariant w.0 w.1 w.2 c.loop-turn-test.true (subst (λ l. Faulted (words c.args.ts.now) c.in-err-rule.field-0.0 (read_rule (spelled l) (drop c.loop-turn.at (words c.args.ts.now)))) c.deref.ensures.value c.in-err-rule.ensures))
 
 pub loop-turn-preserved : goal.loop-turn-preserved
 loop-turn-preserved c =
     let w = some_word c.args.ts.now c.loop-turn.at c.if-at-ts.false in
     let k = c.in-ok-rule.ensures in
     let ns = spelled (vec_items c.loop-turn.labels) in
-    collects-next c.loop-turn.invariant w.0 w.1 w.2 c.loop-turn-test.true k.0 c.in-ok-rule.end
+    collects_next c.loop-turn.invariant w.0 w.1 w.2 c.loop-turn-test.true k.0 c.in-ok-rule.end
     (ap (λ l. read_rule (spelled l) (drop c.loop-turn.at (words c.args.ts.now))) (sym c.deref.ensures.value) ∙ k.2)
     _ (ap spelled c.in-ok-push.ensures.items ∙ map_push name_bytes (vec_items c.loop-turn.labels) c.in-ok-rule.rule.label ∙ sym (label_joins ns k.0 (name_bytes c.in-ok-rule.rule.label) (ap (λ r. r.label) k.1)))
     _ (vec_grown rule_view (vec_items c.loop-turn.list) c.in-ok-rule.rule c.in-ok-push-2.ensures.items k.1)
@@ -40,4 +40,4 @@ loop-turn-preserved c =
 pub returns : goal.returns
 returns c =
     let w = some_word c.args.ts.now c.loop-turn.at c.if-at-ts-2.false in
-    collects-over c.loop-turn.invariant w.0 w.1 w.2 c.loop-turn-test.false c.one_too_many.result c.one_too_many.ensures
+    collects_over c.loop-turn.invariant w.0 w.1 w.2 c.loop-turn-test.false c.one_too_many.result c.one_too_many.ensures

@@ -1,5 +1,5 @@
 use Rattle.std.proofs.Common.{◌<◌, ◌≤◌, length, vec_items, vec_len, vec_capacity, refl, arith}
-use Rattle.state.proofs.Places.{taken_rising, taken-facts, kept_facts, another, past}
+use Rattle.state.proofs.Places.{taken_rising, taken_facts, kept_facts, another, past}
 use Rattle.state.proofs.store.Store.remove.Goals as goal
 use Rattle.state.proofs.store.Store.remove.Goals.{else-at-len-via-then-at-len+else-index-identifier, else-at-len-via-else-at-len}
 
@@ -16,7 +16,7 @@ returns-then-index-identifier c =
     let s = c.args.self.now in
     let h : c.place-of-at.result < length (vec_items s.list) = omega (arith, s.list.ok.0, c.if-at-len.true, c.len.ensures) in
     record {
-      facts = taken-facts c.args.identifier (vec_items s.list) c.place-of-at.result c.place-of-at.ensures c.index.result.now c.index.ensures h c.if-index-identifier.true s.next (vec_items c.remove.new.self) s.rising c.remove.ensures.by_index.2;
+      facts = taken_facts c.args.identifier (vec_items s.list) c.place-of-at.result c.place-of-at.ensures c.index.result.now c.index.ensures h c.if-index-identifier.true s.next (vec_items c.remove.new.self) s.rising c.remove.ensures.by_index.2;
       next = refl;
     }
 
