@@ -3,8 +3,8 @@ use Rattle.groups.specs.Groups.{groups}
 use Rattle.groups.proofs.Shapes.{groups_high, groups_low, length_groups, length_formed, formed_groups}
 use Rattle.groups.proofs.numbers.width_of.Goals as goal
 
-pub overflow-add-count : goal.overflow-add-count
-overflow-add-count c =
+pub overflow_add-count : goal.overflow_add-count
+overflow_add-count c =
     let many = length_groups 10 c.args.n (omega arith) (omega arith) in
     let some = length_formed (formed_groups c.loop-rest.rest) in
     omega arith
