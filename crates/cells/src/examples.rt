@@ -41,10 +41,10 @@ pub fn telling_settles<K: Kind>() -> u8
 
 // Theorem: the constants are the ends that the kinds' laws speak of.
 pub fn constants_are_the_ends() -> u8
-    ensures* bounds_lowest { do ⌜ (← (⟦<crate::bounds::Bounds as Kind>::LOWEST⟧).entry) ≡ negsuc 999999999 ⌝ }
-    ensures* bounds_highest { do ⌜ (← (⟦<crate::bounds::Bounds as Kind>::HIGHEST⟧).entry) ≡ pos 1000000000 ⌝ }
-    ensures* sets_lowest { do ⌜ (← (⟦<crate::sets::Sets as Kind>::LOWEST⟧).entry) ≡ pos 0 ⌝ }
-    ensures* sets_highest { do ⌜ (← (⟦<crate::sets::Sets as Kind>::HIGHEST⟧).entry) ≡ pos 63 ⌝ }
+    ensures bounds_lowest { ⟦<crate::bounds::Bounds as Kind>⟧.LOWEST ≡ negsuc 999999999 }
+    ensures bounds_highest { ⟦<crate::bounds::Bounds as Kind>⟧.HIGHEST ≡ pos 1000000000 }
+    ensures sets_lowest { ⟦<crate::sets::Sets as Kind>⟧.LOWEST ≡ pos 0 }
+    ensures sets_highest { ⟦<crate::sets::Sets as Kind>⟧.HIGHEST ≡ pos 63 }
 {
     0
 }

@@ -5,7 +5,7 @@ use Rattle.std.specs.List.Sorted.{IsPermutation}
 use Rattle.std.specs.List.{swap}
 use Rattle.std.specs.Option.{option_to_list}
 use Rattle.std.proofs.lemmas.List.{take_more, drop_more, reverse-append, length-map, map-set, get_or-map}
-use Rattle.std.proofs.lemmas.List.Sorted.{IsPermutation-refl, IsPermutation-cons, IsPermutation-trans, IsPermutation-to_front, IsPermutation-swap, IsPermutationKeeps}
+use Rattle.std.proofs.lemmas.List.Sorted.{IsPermutation-refl, IsPermutation-cons, IsPermutation-trans, IsPermutation-to_front, IsPermutation-swap, IsPermutation-keeps}
 
 module _ {X : Type 0} where
   -- equal lists are shuffled
@@ -79,7 +79,7 @@ module _ {X Y : Type 0} (f : X → Y) where
   -- one function of each element
   pub shuffled_map : (xs ys : List X) → IsPermutation xs ys → IsPermutation (map f xs) (map f ys)
   shuffled_map xs ys s =
-      IsPermutationKeeps xs (λ (l : List X). IsPermutation (map f xs) (map f l)) (IsPermutation-refl (map f xs)) step ys s
+      IsPermutation-keeps xs (λ (l : List X). IsPermutation (map f xs) (map f l)) (IsPermutation-refl (map f xs)) step ys s
     where
       step : (l : List X) (i j : ℕ) → i < length l → j < length l → IsPermutation (map f xs) (map f l) → IsPermutation (map f xs) (map f (swap l i j))
       step l i j p q h =

@@ -3,9 +3,9 @@ use Rattle.orders.proofs.Bagged.{first_off, shuffled_same, empty}
 use Rattle.orders.proofs.Queues.{same_queue}
 use Rattle.orders.proofs.breadth.BreadthFirstOrder.give_up.Goals as goal
 
-pub returns-in-default : goal.returns-in-default
-returns-in-default c =
-    let h = c.in-default.ensures.cases in
+pub returns-in_default : goal.returns-in_default
+returns-in_default c =
+    let h = c.in_default.ensures.cases in
     let q = c.args.self.now.queue in
     let e : deque_items q ≡ [] = empty (deque_items q) (deque_len q) q.ok.0 (omega (arith, h.0)) in
     record { bag = e; gives = (e, ap deque_items h.1 ∙ e); same = same_queue _ _ h.1 }

@@ -5,8 +5,8 @@ use Rattle.orders.proofs.breadth.BreadthFirstOrder.take_in.Goals as goal
 pub loop-w-preserved : goal.loop-w-preserved
 loop-w-preserved c = (
   c.loop-w.invariant.0,
-  c.push-back-reserved.ensures.items ∙ pushed _ _ _ _ _ c.loop-w-test.true c.loop-w.invariant.1,
-  omega (arith, c.push-back-reserved.ensures.len, c.loop-w.invariant.2),
+  c.push_back_reserved.ensures.items ∙ pushed _ _ _ _ _ c.loop-w-test.true c.loop-w.invariant.1,
+  omega (arith, c.push_back_reserved.ensures.len, c.loop-w.invariant.2),
 )
 
 pub returns : goal.returns

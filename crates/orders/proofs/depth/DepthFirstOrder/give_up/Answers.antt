@@ -2,8 +2,8 @@ use Rattle.std.proofs.Common.{◌≡◌, [], reverse, vec_items, vec_len, sym, r
 use Rattle.orders.proofs.Bagged.{popped, shuffled_same, empty}
 use Rattle.orders.proofs.depth.DepthFirstOrder.give_up.Goals as goal
 
-pub returns-then-is-empty : goal.returns-then-is-empty
-returns-then-is-empty c =
+pub returns-then-is_empty : goal.returns-then-is_empty
+returns-then-is_empty c =
     let z : vec_len c.args.self.now.stack ≡ 0 = search rules in
     let e = ap reverse (empty _ _ c.args.self.now.stack.ok.0 z) in
     record { bag = e; gives = (e, e); same = refl }

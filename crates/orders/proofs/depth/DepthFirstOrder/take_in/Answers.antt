@@ -17,22 +17,22 @@ returns-then-list-len c =
 pub loop-w-init : goal.loop-w-init
 loop-w-init c =
     let s = c.args.self.now.stack in
-    let e : iter_rest (rev_source c.into-iter-w-iterator.result) ≡ c.args.list.now = ap (λ i. iter_rest (rev_source i)) c.into-iter-w-iterator.ensures.into-iter-gives ∙ ap iter_rest c.rev-w-items.ensures.source ∙ c.iter.ensures.rest in
+    let e : iter_rest (rev_source c.into_iter-w-iterator.result) ≡ c.args.list.now = ap (λ i. iter_rest (rev_source i)) c.into_iter-w-iterator.ensures.into_iter_gives ∙ ap iter_rest c.rev-w-items.ensures.source ∙ c.iter.ensures.rest in
     (tt, tt, omega (arith, ap length e, c.len.ensures, c.if-list-len.false, c.args.self.now.small), ap (λ l. l ++ reverse (vec_items s)) e)
 
-pub invariant-of-self : goal.invariant-of-self
-invariant-of-self c =
-    let p = c.push-reserved.ensures in
+pub invariant_of-self : goal.invariant_of-self
+invariant_of-self c =
+    let p = c.push_reserved.ensures in
     let h = ap length c.in-Some.ensures.steps in
     let more = length_push (iter_rest (rev_source c.next.new.self)) c.in-Some.w.now in
-    let room : 256 ≤ vec_capacity c.push-reserved.new.self = omega (arith, p.capacity, c.loop-w.self.room) in
-    let small : vec_len c.push-reserved.new.self ≤ 256 = omega (arith, p.len, h, more, c.loop-w.invariant.2) in
+    let room : 256 ≤ vec_capacity c.push_reserved.new.self = omega (arith, p.capacity, c.loop-w.self.room) in
+    let small : vec_len c.push_reserved.new.self ≤ 256 = omega (arith, p.len, h, more, c.loop-w.invariant.2) in
     (room, (small, tt))
 
 pub loop-w-preserved : goal.loop-w-preserved
 loop-w-preserved c =
     let h = c.in-Some.ensures.steps in
-    let p = c.push-reserved.ensures in (
+    let p = c.push_reserved.ensures in (
       tt,
       tt,
       omega (arith, ap length h, length_push (iter_rest (rev_source c.next.new.self)) c.in-Some.w.now, p.len, c.loop-w.invariant.2),
