@@ -53,6 +53,10 @@ impl Kind for Bounds {
 
     const HIGHEST: i32 = 1_000_000_000;
 
+    ghost LOWEST = { negsuc 999999999 };
+
+    ghost HIGHEST = { pos 1000000000 };
+
     ghost lowest = { negsuc 999999999 };
 
     ghost highest = { pos 1000000000 };

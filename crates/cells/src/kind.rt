@@ -14,7 +14,12 @@ pub trait Kind {
 
     const HIGHEST: i32;
 
-    // The same, as a contract can speak of them.
+    // What the constants are, as a clause reads them.
+    ghost LOWEST: { ℤ };
+
+    ghost HIGHEST: { ℤ };
+
+    // The ends that the laws speak of.
     ghost lowest: { ℤ };
 
     ghost highest: { ℤ };

@@ -49,6 +49,10 @@ impl Kind for Sets {
 
     const HIGHEST: i32 = 63;
 
+    ghost LOWEST = { pos 0 };
+
+    ghost HIGHEST = { pos 63 };
+
     ghost lowest = { pos 0 };
 
     ghost highest = { pos 63 };

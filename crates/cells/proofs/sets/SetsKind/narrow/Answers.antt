@@ -5,8 +5,8 @@ use Rattle.cells.proofs.sets.SetsKind.narrow.Goals as goal
 
 pub returns : goal.returns
 returns c =
-    let l : SFits w32 c.in-ok-left.left.low = search rules in
-    let h : SFits w32 c.in-ok-left.left.high = search rules in
-    set_clips c.args.c c.in-ok-left.left c.args.by c.ranges.c.fits (to_z-of_z w32 c.args.n c.ranges.n)
-    (to_z-of_z w32 c.in-ok-left.left.low l) (to_z-of_z w32 c.in-ok-left.left.high h)
-    c.in-ok-left.ensures c.mask.ensures c.nonzero.ensures
+    let l : SFits w32 c.in_ok-left.left.low = search rules in
+    let h : SFits w32 c.in_ok-left.left.high = search rules in
+    set_clips c.args.c c.in_ok-left.left c.args.by c.ranges.c.fits (to_z-of_z w32 c.args.n c.ranges.n)
+    (to_z-of_z w32 c.in_ok-left.left.low l) (to_z-of_z w32 c.in_ok-left.left.high h)
+    c.in_ok-left.ensures c.mask.ensures c.nonzero.ensures
