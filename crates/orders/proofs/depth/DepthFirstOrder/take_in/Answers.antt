@@ -27,7 +27,7 @@ invariant_of-self c =
     let more = length_push (iter_rest (rev_source c.next.new.self)) c.in-Some.w.now in
     let room : 256 ≤ vec_capacity c.push_reserved.new.self = omega (arith, p.capacity, c.loop-w.self.room) in
     let small : vec_len c.push_reserved.new.self ≤ 256 = omega (arith, p.len, h, more, c.loop-w.invariant.2) in
-    (room, (small, tt))
+    record { room = room; small = small }
 
 pub loop-w-preserved : goal.loop-w-preserved
 loop-w-preserved c =
