@@ -57,6 +57,8 @@ def own_names():
         text = read(path)
         for m in re.finditer(r"goal\.([^\s(){}\[\].,;:|]+)", text):
             made.add(m.group(1))
+        for m in re.finditer(r"^use Rattle\.std[^\n{]*\{([^}]*)\}", text, re.M):
+            made.update(n.strip().split(" as ")[0] for n in m.group(1).split(","))
         module = False
         for line in text.split("\n"):
             if line and not line.startswith(" "):

@@ -11,35 +11,35 @@ use Rattle.parse.proofs.Faults.{exit}
 use Rattle.parse.proofs.Chains.{fact_bare, fact_arguments, fact_close, fact_all}
 use Rattle.parse.proofs.bodies.adding.Goals as goal
 
-pub returns-in-default : goal.returns-in-default
-returns-in-default c =
-    let n = c.in-ok-place.ensures in
+pub returns-in_default : goal.returns-in_default
+returns-in_default c =
+    let n = c.in_ok-place.ensures in
     let σ = scope c.args.scope in
     let w = drop c.args.at (words c.args.ts.now) in
-    (bare n.0.0 n.0.1, λ i. record { place = n.1.0 i; name = n.1.1 i; arguments = [] }, fact_bare read_argument same read_name (read_arguments read_argument same σ) w n.2 c.in-default.ensures)
+    (bare n.0.0 n.0.1, λ i. record { place = n.1.0 i; name = n.1.1 i; arguments = [] }, fact_bare read_argument same read_name (read_arguments read_argument same σ) w n.2 c.in_default.ensures)
 
-pub returns-in-err-arguments : goal.returns-in-err-arguments
-returns-in-err-arguments c =
-    let n = c.in-ok-place.ensures in
+pub returns-in_err-arguments : goal.returns-in_err-arguments
+returns-in_err-arguments c =
+    let n = c.in_ok-place.ensures in
     let s = c.in-Some.ensures in
     let σ = scope c.args.scope in
     let w = drop c.args.at (words c.args.ts.now) in
-    exit (IsAs mention (mention_of (argument_term (scope_variables c.args.scope)))) c.from-residual-in-err-arguments.result c.from-residual-in-err-arguments.ensures.1 (fact_arguments read_argument same read_name (read_arguments read_argument same σ) w n.2 s.0 s.1 c.in-err-arguments.ensures)
+    exit (IsAs mention (mention_of (argument_term (scope_variables c.args.scope)))) c.from_residual-in_err-arguments.result c.from_residual-in_err-arguments.ensures.1 (fact_arguments read_argument same read_name (read_arguments read_argument same σ) w n.2 s.0 s.1 c.in_err-arguments.ensures)
 
-pub returns-in-err-end : goal.returns-in-err-end
-returns-in-err-end c =
-    let n = c.in-ok-place.ensures in
+pub returns-in_err-end : goal.returns-in_err-end
+returns-in_err-end c =
+    let n = c.in_ok-place.ensures in
     let s = c.in-Some.ensures in
-    let a = c.in-ok-arguments.ensures in
+    let a = c.in_ok-arguments.ensures in
     let σ = scope c.args.scope in
     let w = drop c.args.at (words c.args.ts.now) in
-    exit (IsAs mention (mention_of (argument_term (scope_variables c.args.scope)))) c.from-residual-in-err-end.result c.from-residual-in-err-end.ensures.1 (fact_close read_argument same read_name (read_arguments read_argument same σ) w n.2 s.0 s.1 a.2 c.in-err-end.ensures)
+    exit (IsAs mention (mention_of (argument_term (scope_variables c.args.scope)))) c.from_residual-in_err-end.result c.from_residual-in_err-end.ensures.1 (fact_close read_argument same read_name (read_arguments read_argument same σ) w n.2 s.0 s.1 a.2 c.in_err-end.ensures)
 
 pub returns : goal.returns
 returns c =
-    let n = c.in-ok-place.ensures in
+    let n = c.in_ok-place.ensures in
     let s = c.in-Some.ensures in
-    let a = c.in-ok-arguments.ensures in
+    let a = c.in_ok-arguments.ensures in
     let σ = scope c.args.scope in
     let w = drop c.args.at (words c.args.ts.now) in
-    (applied n.0.0 n.0.1 a.0, λ i. record { place = n.1.0 i; name = n.1.1 i; arguments = a.1 i }, fact_all read_argument same read_name (read_arguments read_argument same σ) w n.2 s.0 s.1 a.2 c.in-ok-end.ensures)
+    (applied n.0.0 n.0.1 a.0, λ i. record { place = n.1.0 i; name = n.1.1 i; arguments = a.1 i }, fact_all read_argument same read_name (read_arguments read_argument same σ) w n.2 s.0 s.1 a.2 c.in_ok-end.ensures)

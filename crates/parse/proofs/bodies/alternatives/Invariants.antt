@@ -11,4 +11,4 @@ use Rattle.parse.proofs.bodies.alternatives.Given as goal
 
 abbrev pub invariant-loop-turn : goal.invariant-loop-turn
 invariant-loop-turn l =
-    Gathers first_alternative semicolon read_alternative same 8 (alternative_of (scope_variables l.scope)) (words l.ts) (read_body (scope l.scope) (drop l.at (words l.ts))) l.-turn (scope l.scope) l.place (map alternative (vec_items l.list))
+    Gathers first_alternative semicolon read_alternative same 8 (alternative_of (scope_variables l.scope)) (words l.ts) (read_body (scope l.scope) (drop l.at (words l.ts))) l._turn (scope l.scope) l.place (map alternative (vec_items l.list))

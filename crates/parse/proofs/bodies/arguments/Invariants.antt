@@ -12,4 +12,4 @@ use Rattle.parse.proofs.bodies.arguments.Given as goal
 
 abbrev pub invariant-loop-turn : goal.invariant-loop-turn
 invariant-loop-turn l =
-    Gathers first_left comma read_argument same 3 (argument_term (scope_variables l.scope)) (words l.ts) (read_arguments read_argument same (scope l.scope) (drop l.at (words l.ts))) l.-turn (scope l.scope) l.place (map term (few_items l.terms)) × (length (few_items l.terms) ≡ l.-turn)
+    Gathers first_left comma read_argument same 3 (argument_term (scope_variables l.scope)) (words l.ts) (read_arguments read_argument same (scope l.scope) (drop l.at (words l.ts))) l._turn (scope l.scope) l.place (map term (few_items l.terms)) × (length (few_items l.terms) ≡ l._turn)

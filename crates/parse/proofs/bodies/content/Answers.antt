@@ -14,11 +14,11 @@ returns-in-Some c =
     let s = c.in-Some.ensures in
     (tree.nil, ap (map item) (sym c.new.ensures.items), content_true (read_items c.args.most (scope c.args.scope)) (drop c.args.at (words c.args.ts.now)) s.0 s.1)
 
-pub returns-in-err-list : goal.returns-in-err-list
-returns-in-err-list c =
-    exit (IsContent (scope_variables c.args.scope)) c.from-residual.result c.from-residual.ensures.1 (content_led (read_items c.args.most (scope c.args.scope)) (drop c.args.at (words c.args.ts.now)) c.in-default.ensures c.in-err-list.ensures)
+pub returns-in_err-list : goal.returns-in_err-list
+returns-in_err-list c =
+    exit (IsContent (scope_variables c.args.scope)) c.from_residual.result c.from_residual.ensures.1 (content_led (read_items c.args.most (scope c.args.scope)) (drop c.args.at (words c.args.ts.now)) c.in_default.ensures c.in_err-list.ensures)
 
 pub returns : goal.returns
 returns c =
-    let k = c.in-ok-list.ensures in
-    (tree.items k.0, k.1, content_items (read_items c.args.most (scope c.args.scope)) (drop c.args.at (words c.args.ts.now)) c.in-default.ensures k.2)
+    let k = c.in_ok-list.ensures in
+    (tree.items k.0, k.1, content_items (read_items c.args.most (scope c.args.scope)) (drop c.args.at (words c.args.ts.now)) c.in_default.ensures k.2)

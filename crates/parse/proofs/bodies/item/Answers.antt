@@ -10,19 +10,19 @@ use Rattle.parse.specs.Flat.{item_of}
 use Rattle.parse.proofs.Chains.{item_fact, item_led, item_told}
 use Rattle.parse.proofs.bodies.item.Goals as goal
 
-pub returns-then-name-ahead : goal.returns-then-name-ahead
-returns-then-name-ahead c =
-    let k = c.in-ok-fact.ensures in
+pub returns-then-name_ahead : goal.returns-then-name_ahead
+returns-then-name_ahead c =
+    let k = c.in_ok-fact.ensures in
     let σ = scope c.args.scope in
-    (tree.added k.0, ap add k.1, item_fact (read_adding σ) (read_tell σ) (drop c.args.at (words c.args.ts.now)) (sym c.if-name-ahead.ensures) k.2)
+    (tree.added k.0, ap add k.1, item_fact (read_adding σ) (read_tell σ) (drop c.args.at (words c.args.ts.now)) (sym c.if-name_ahead.ensures) k.2)
 
-pub returns-in-err-comparison : goal.returns-in-err-comparison
-returns-in-err-comparison c =
+pub returns-in_err-comparison : goal.returns-in_err-comparison
+returns-in_err-comparison c =
     let σ = scope c.args.scope in
-    exit (IsAs item (item_of (scope_variables c.args.scope))) c.from-residual-in-err-comparison.result c.from-residual-in-err-comparison.ensures.1 (item_led (read_adding σ) (read_tell σ) (drop c.args.at (words c.args.ts.now)) (sym c.if-name-ahead.ensures) c.in-default.ensures c.in-err-comparison.ensures)
+    exit (IsAs item (item_of (scope_variables c.args.scope))) c.from_residual-in_err-comparison.result c.from_residual-in_err-comparison.ensures.1 (item_led (read_adding σ) (read_tell σ) (drop c.args.at (words c.args.ts.now)) (sym c.if-name_ahead.ensures) c.in_default.ensures c.in_err-comparison.ensures)
 
 pub returns : goal.returns
 returns c =
-    let k = c.in-ok-comparison.ensures in
+    let k = c.in_ok-comparison.ensures in
     let σ = scope c.args.scope in
-    (tree.told k.0, ap tell k.1, item_told (read_adding σ) (read_tell σ) (drop c.args.at (words c.args.ts.now)) (sym c.if-name-ahead.ensures) c.in-default.ensures k.2)
+    (tree.told k.0, ap tell k.1, item_told (read_adding σ) (read_tell σ) (drop c.args.at (words c.args.ts.now)) (sym c.if-name_ahead.ensures) c.in_default.ensures k.2)

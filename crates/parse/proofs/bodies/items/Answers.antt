@@ -15,22 +15,22 @@ pub loop-turn-init : goal.loop-turn-init
 unfolding read_items
 loop-turn-init c = gathers_none first_item comma read_item same c.args.most (item_of (scope_variables c.args.scope)) (scope c.args.scope) (words c.args.ts.now) c.args.at _ _ (ap (map item) (sym c.new-items.ensures.items)) refl
 
-pub returns-in-err-item : goal.returns-in-err-item
-returns-in-err-item c =
-    exit (AreAs vec_items item (item_of (scope_variables c.args.scope))) c.from-residual.result c.from-residual.ensures.1 (gathers_fault c.loop-turn.invariant c.loop-turn-test.true c.in-err-item.ensures)
+pub returns-in_err-item : goal.returns-in_err-item
+returns-in_err-item c =
+    exit (AreAs vec_items item (item_of (scope_variables c.args.scope))) c.from_residual.result c.from_residual.ensures.1 (gathers_fault c.loop-turn.invariant c.loop-turn-test.true c.in_err-item.ensures)
 
-pub returns-in-default : goal.returns-in-default
-returns-in-default c =
-    let k = c.in-ok-item.ensures in
-    let grown = vec_grown item (vec_items c.loop-turn.items) c.in-ok-item.item c.in-ok-push.ensures.items k.1 in
-    gathers_stop c.loop-turn.invariant c.loop-turn-test.true k.0 c.in-ok-item.end k.2 _ grown c.in-default.ensures
+pub returns-in_default : goal.returns-in_default
+returns-in_default c =
+    let k = c.in_ok-item.ensures in
+    let grown = vec_grown item (vec_items c.loop-turn.items) c.in_ok-item.item c.in_ok-push.ensures.items k.1 in
+    gathers_stop c.loop-turn.invariant c.loop-turn-test.true k.0 c.in_ok-item.end k.2 _ grown c.in_default.ensures
 
 pub loop-turn-preserved : goal.loop-turn-preserved
 loop-turn-preserved c =
-    let k = c.in-ok-item.ensures in
+    let k = c.in_ok-item.ensures in
     let s = c.in-Some.ensures in
-    let grown = vec_grown item (vec_items c.loop-turn.items) c.in-ok-item.item c.in-ok-push.ensures.items k.1 in
-    gathers_next c.loop-turn.invariant c.loop-turn-test.true k.0 c.in-ok-item.end k.2 _ grown c.in-Some.next s.0 s.1
+    let grown = vec_grown item (vec_items c.loop-turn.items) c.in_ok-item.item c.in_ok-push.ensures.items k.1 in
+    gathers_next c.loop-turn.invariant c.loop-turn-test.true k.0 c.in_ok-item.end k.2 _ grown c.in-Some.next s.0 s.1
 
 pub returns : goal.returns
 returns c = gathers_over c.loop-turn.invariant c.loop-turn-test.false c.one_too_many.result c.one_too_many.ensures

@@ -11,4 +11,4 @@ use Rattle.parse.proofs.bodies.items.Given as goal
 
 abbrev pub invariant-loop-turn : goal.invariant-loop-turn
 invariant-loop-turn l =
-    Gathers first_item comma read_item same l.most (item_of (scope_variables l.scope)) (words l.ts) (read_items l.most (scope l.scope) (drop l.at (words l.ts))) l.-turn (scope l.scope) l.place (map item (vec_items l.items))
+    Gathers first_item comma read_item same l.most (item_of (scope_variables l.scope)) (words l.ts) (read_items l.most (scope l.scope) (drop l.at (words l.ts))) l._turn (scope l.scope) l.place (map item (vec_items l.items))

@@ -10,26 +10,26 @@ use Rattle.parse.proofs.Faults.{exit}
 use Rattle.parse.proofs.Chains.{comparison_second, comparison_third, comparison_all}
 use Rattle.parse.proofs.guards.asking.Goals as goal
 
-pub returns-in-err-relation : goal.returns-in-err-relation
-returns-in-err-relation c =
-    let l = c.in-ok-left.ensures in
+pub returns-in_err-relation : goal.returns-in_err-relation
+returns-in_err-relation c =
+    let l = c.in_ok-left.ensures in
     let σ = scope c.args.scope in
     let w = drop c.args.at (words c.args.ts.now) in
-    exit (IsAs asking (asking_of (scope_variables c.args.scope))) c.from-residual-in-err-relation.result c.from-residual-in-err-relation.ensures.1 (comparison_second (read_left σ) read_relation (read_right σ) w l.2 c.in-err-relation.ensures)
+    exit (IsAs asking (asking_of (scope_variables c.args.scope))) c.from_residual-in_err-relation.result c.from_residual-in_err-relation.ensures.1 (comparison_second (read_left σ) read_relation (read_right σ) w l.2 c.in_err-relation.ensures)
 
-pub returns-in-err-right : goal.returns-in-err-right
-returns-in-err-right c =
-    let l = c.in-ok-left.ensures in
-    let t = c.in-ok-relation.ensures in
+pub returns-in_err-right : goal.returns-in_err-right
+returns-in_err-right c =
+    let l = c.in_ok-left.ensures in
+    let t = c.in_ok-relation.ensures in
     let σ = scope c.args.scope in
     let w = drop c.args.at (words c.args.ts.now) in
-    exit (IsAs asking (asking_of (scope_variables c.args.scope))) c.from-residual-in-err-right.result c.from-residual-in-err-right.ensures.1 (comparison_third (read_left σ) read_relation (read_right σ) w l.2 t.2 c.in-err-right.ensures)
+    exit (IsAs asking (asking_of (scope_variables c.args.scope))) c.from_residual-in_err-right.result c.from_residual-in_err-right.ensures.1 (comparison_third (read_left σ) read_relation (read_right σ) w l.2 t.2 c.in_err-right.ensures)
 
 pub returns : goal.returns
 returns c =
-    let l = c.in-ok-left.ensures in
-    let t = c.in-ok-relation.ensures in
-    let r = c.in-ok-right.ensures in
+    let l = c.in_ok-left.ensures in
+    let t = c.in_ok-relation.ensures in
+    let r = c.in_ok-right.ensures in
     let σ = scope c.args.scope in
     let w = drop c.args.at (words c.args.ts.now) in
     (compared l.0 t.0 r.0, λ i. record { left = l.1 i; relation = t.1 i; right = r.1 i }, comparison_all (read_left σ) read_relation (read_right σ) w l.2 t.2 r.2)

@@ -11,4 +11,4 @@ use Rattle.parse.proofs.guards.askings.Given as goal
 
 abbrev pub invariant-loop-turn : goal.invariant-loop-turn
 invariant-loop-turn l =
-    Gathers first_left comma read_asking same 4 (asking_of (scope_variables l.scope)) (words l.ts) (read_askings (scope l.scope) (drop l.at (words l.ts))) l.-turn (scope l.scope) l.place (map asking (vec_items l.list))
+    Gathers first_left comma read_asking same 4 (asking_of (scope_variables l.scope)) (words l.ts) (read_askings (scope l.scope) (drop l.at (words l.ts))) l._turn (scope l.scope) l.place (map asking (vec_items l.list))

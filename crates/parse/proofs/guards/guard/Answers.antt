@@ -10,27 +10,27 @@ use Rattle.parse.specs.Flat.{IsGuard}
 use Rattle.parse.proofs.Chains.{arrow_led, arrow_all, askings_led, bar_led, guarded_all}
 use Rattle.parse.proofs.guards.guard.Goals as goal
 
-pub returns-in-err-end : goal.returns-in-err-end
-returns-in-err-end c =
-    exit (IsGuard (scope_variables c.args.scope)) c.from-residual.result c.from-residual.ensures.1 (arrow_led (sign_code c.args.plain) (sign_code c.args.guarding) (read_askings (scope c.args.scope)) (drop c.args.at (words c.args.ts.now)) c.in-default.ensures c.in-err-end.ensures)
+pub returns-in_err-end : goal.returns-in_err-end
+returns-in_err-end c =
+    exit (IsGuard (scope_variables c.args.scope)) c.from_residual.result c.from_residual.ensures.1 (arrow_led (sign_code c.args.plain) (sign_code c.args.guarding) (read_askings (scope c.args.scope)) (drop c.args.at (words c.args.ts.now)) c.in_default.ensures c.in_err-end.ensures)
 
-pub returns-in-default : goal.returns-in-default
-returns-in-default c =
-    (tree.none, ap (map asking) (sym c.new.ensures.items), arrow_all (sign_code c.args.plain) (sign_code c.args.guarding) (read_askings (scope c.args.scope)) (drop c.args.at (words c.args.ts.now)) c.in-default.ensures c.in-ok-end.ensures)
+pub returns-in_default : goal.returns-in_default
+returns-in_default c =
+    (tree.none, ap (map asking) (sym c.new.ensures.items), arrow_all (sign_code c.args.plain) (sign_code c.args.guarding) (read_askings (scope c.args.scope)) (drop c.args.at (words c.args.ts.now)) c.in_default.ensures c.in_ok-end.ensures)
 
-pub returns-in-err-list : goal.returns-in-err-list
-returns-in-err-list c =
+pub returns-in_err-list : goal.returns-in_err-list
+returns-in_err-list c =
     let s = c.in-Some.ensures in
-    exit (IsGuard (scope_variables c.args.scope)) c.from-residual-in-err-list.result c.from-residual-in-err-list.ensures.1 (askings_led (sign_code c.args.plain) (sign_code c.args.guarding) (read_askings (scope c.args.scope)) (drop c.args.at (words c.args.ts.now)) s.0 s.1 c.in-err-list.ensures)
+    exit (IsGuard (scope_variables c.args.scope)) c.from_residual-in_err-list.result c.from_residual-in_err-list.ensures.1 (askings_led (sign_code c.args.plain) (sign_code c.args.guarding) (read_askings (scope c.args.scope)) (drop c.args.at (words c.args.ts.now)) s.0 s.1 c.in_err-list.ensures)
 
-pub returns-in-err-end-2 : goal.returns-in-err-end-2
-returns-in-err-end-2 c =
+pub returns-in_err-end-2 : goal.returns-in_err-end-2
+returns-in_err-end-2 c =
     let s = c.in-Some.ensures in
-    let k = c.in-ok-list.ensures in
-    exit (IsGuard (scope_variables c.args.scope)) c.from-residual-in-err-end-2.result c.from-residual-in-err-end-2.ensures.1 (bar_led (sign_code c.args.plain) (sign_code c.args.guarding) (read_askings (scope c.args.scope)) (drop c.args.at (words c.args.ts.now)) s.0 s.1 k.2 c.in-err-end-2.ensures)
+    let k = c.in_ok-list.ensures in
+    exit (IsGuard (scope_variables c.args.scope)) c.from_residual-in_err-end-2.result c.from_residual-in_err-end-2.ensures.1 (bar_led (sign_code c.args.plain) (sign_code c.args.guarding) (read_askings (scope c.args.scope)) (drop c.args.at (words c.args.ts.now)) s.0 s.1 k.2 c.in_err-end-2.ensures)
 
 pub returns : goal.returns
 returns c =
     let s = c.in-Some.ensures in
-    let k = c.in-ok-list.ensures in
-    (tree.guarded k.0, k.1, guarded_all (sign_code c.args.plain) (sign_code c.args.guarding) (read_askings (scope c.args.scope)) (drop c.args.at (words c.args.ts.now)) s.0 s.1 k.2 c.in-ok-end-2.ensures)
+    let k = c.in_ok-list.ensures in
+    (tree.guarded k.0, k.1, guarded_all (sign_code c.args.plain) (sign_code c.args.guarding) (read_askings (scope c.args.scope)) (drop c.args.at (words c.args.ts.now)) s.0 s.1 k.2 c.in_ok-end-2.ensures)

@@ -12,4 +12,4 @@ use Rattle.parse.proofs.heads.heads.Given as goal
 
 abbrev pub invariant-loop-turn : goal.invariant-loop-turn
 invariant-loop-turn l =
-    Growing (name_kind ∷ []) comma read_head next_head l.-turn-end head_mention (words l.ts) (read_heads l.-turn-end (binding (variables l.initial.names)) (drop l.at (words l.ts))) l.-turn (variables l.initial.names) (variables l.names) l.place (map mention (few_items l.list)) × (length (few_items l.list) ≡ l.-turn)
+    Growing (name_kind ∷ []) comma read_head next_head l._turn-end head_mention (words l.ts) (read_heads l._turn-end (binding (variables l.initial.names)) (drop l.at (words l.ts))) l._turn (variables l.initial.names) (variables l.names) l.place (map mention (few_items l.list)) × (length (few_items l.list) ≡ l._turn)

@@ -15,23 +15,23 @@ pub loop-turn-init : goal.loop-turn-init
 unfolding read_arguments
 loop-turn-init c = (growing_none first_left comma read_left next_left 3 left_term (variables c.args.names.now) (words c.args.ts.now) c.args.at [] _ refl refl, refl)
 
-pub returns-in-err-term : goal.returns-in-err-term
-returns-in-err-term c =
-    exit_growing few_terms pattern_terms (next_all next_left) (variables c.args.names.now) _ c.from-residual.result c.from-residual.ensures.1 (growing_fault c.loop-turn.invariant.0 c.loop-turn-test.true c.in-err-term.ensures)
+pub returns-in_err-term : goal.returns-in_err-term
+returns-in_err-term c =
+    exit_growing few_terms pattern_terms (next_all next_left) (variables c.args.names.now) _ c.from_residual.result c.from_residual.ensures.1 (growing_fault c.loop-turn.invariant.0 c.loop-turn-test.true c.in_err-term.ensures)
 
-pub returns-in-default : goal.returns-in-default
-returns-in-default c =
-    let k = c.in-ok-term.ensures in
-    let room : c.loop-turn.-turn < 3 = c.loop-turn-test.true in
-    growing_stop c.loop-turn.invariant.0 c.loop-turn-test.true left_extends k.0 _ (term c.in-ok-term.term) k.1 k.2 c.in-ok-term.end k.3 _ (few_grown term c.loop-turn.terms c.in-ok-term.term c.with-terms.result c.loop-turn.-turn c.loop-turn.invariant.1 room c.with-terms.ensures _ refl) c.in-default.ensures
+pub returns-in_default : goal.returns-in_default
+returns-in_default c =
+    let k = c.in_ok-term.ensures in
+    let room : c.loop-turn._turn < 3 = c.loop-turn-test.true in
+    growing_stop c.loop-turn.invariant.0 c.loop-turn-test.true left_extends k.0 _ (term c.in_ok-term.term) k.1 k.2 c.in_ok-term.end k.3 _ (few_grown term c.loop-turn.terms c.in_ok-term.term c.with-terms.result c.loop-turn._turn c.loop-turn.invariant.1 room c.with-terms.ensures _ refl) c.in_default.ensures
 
 pub loop-turn-preserved : goal.loop-turn-preserved
 loop-turn-preserved c =
-    let k = c.in-ok-term.ensures in
+    let k = c.in_ok-term.ensures in
     let s = c.in-Some.ensures in
-    let room : c.loop-turn.-turn < 3 = c.loop-turn-test.true in (
-      growing_next c.loop-turn.invariant.0 c.loop-turn-test.true left_extends k.0 _ (term c.in-ok-term.term) k.1 k.2 c.in-ok-term.end k.3 _ (few_grown term c.loop-turn.terms c.in-ok-term.term c.with-terms.result c.loop-turn.-turn c.loop-turn.invariant.1 room c.with-terms.ensures _ refl) c.in-Some.next s.0 s.1,
-      few_longer c.loop-turn.terms c.in-ok-term.term c.with-terms.result c.loop-turn.-turn c.loop-turn.invariant.1 room c.with-terms.ensures,
+    let room : c.loop-turn._turn < 3 = c.loop-turn-test.true in (
+      growing_next c.loop-turn.invariant.0 c.loop-turn-test.true left_extends k.0 _ (term c.in_ok-term.term) k.1 k.2 c.in_ok-term.end k.3 _ (few_grown term c.loop-turn.terms c.in_ok-term.term c.with-terms.result c.loop-turn._turn c.loop-turn.invariant.1 room c.with-terms.ensures _ refl) c.in-Some.next s.0 s.1,
+      few_longer c.loop-turn.terms c.in_ok-term.term c.with-terms.result c.loop-turn._turn c.loop-turn.invariant.1 room c.with-terms.ensures,
     )
 
 pub returns : goal.returns

@@ -12,4 +12,4 @@ use Rattle.parse.proofs.heads.patterns.Given as goal
 
 abbrev pub invariant-loop-turn : goal.invariant-loop-turn
 invariant-loop-turn l =
-    Growing first_left comma read_left next_left 3 left_term (words l.ts) (read_arguments read_left next_left (binding (variables l.initial.names)) (drop l.at (words l.ts))) l.-turn (variables l.initial.names) (variables l.names) l.place (map term (few_items l.terms)) × (length (few_items l.terms) ≡ l.-turn)
+    Growing first_left comma read_left next_left 3 left_term (words l.ts) (read_arguments read_left next_left (binding (variables l.initial.names)) (drop l.at (words l.ts))) l._turn (variables l.initial.names) (variables l.names) l.place (map term (few_items l.terms)) × (length (few_items l.terms) ≡ l._turn)

@@ -9,15 +9,15 @@ use Rattle.parse.proofs.terms.argument.Goals as goal
 pub returns-in-Some : goal.returns-in-Some
 returns-in-Some c =
     let s = c.in-Some.ensures in
-    let k = c.in-ok-cell.ensures in
+    let k = c.in_ok-cell.ensures in
     (held k.0, ap model.cell k.1, simp (s.0, s.1, k.2))
 
 pub returns : goal.returns
 returns c =
-    let k = c.in-ok-term.ensures in
-    (valued k.0, k.1, simp (c.in-default.ensures, k.2))
+    let k = c.in_ok-term.ensures in
+    (valued k.0, k.1, simp (c.in_default.ensures, k.2))
 
-pub returns-in-err-term : goal.returns-in-err-term
-returns-in-err-term c =
-    let s = c.in-default.ensures in
-    exit (IsArgument (scope_variables c.args.scope)) c.from-residual-in-err-term.result c.from-residual-in-err-term.ensures.1 (led c.in-err-term.ensures (λ r e. simp (s, e)) (λ n w r e. simp (s, e)))
+pub returns-in_err-term : goal.returns-in_err-term
+returns-in_err-term c =
+    let s = c.in_default.ensures in
+    exit (IsArgument (scope_variables c.args.scope)) c.from_residual-in_err-term.result c.from_residual-in_err-term.ensures.1 (led c.in_err-term.ensures (λ r e. simp (s, e)) (λ n w r e. simp (s, e)))

@@ -11,38 +11,38 @@ use Rattle.parse.proofs.Chains.{ask_led, goal_led, stop_led, goal_more, goal_all
 use Rattle.parse.proofs.Rows.{some_word, exit_goal}
 use Rattle.parse.proofs.whole.goal.Goals as goal
 
-pub returns-in-err-next : goal.returns-in-err-next
+pub returns-in_err-next : goal.returns-in_err-next
 unfolding read_goal
-returns-in-err-next c = exit_goal c.from-residual.result c.from-residual.ensures.1 (ask_led (read_content 16 closed) (words c.args.ts.now) c.in-err-next.ensures)
+returns-in_err-next c = exit_goal c.from_residual.result c.from_residual.ensures.1 (ask_led (read_content 16 closed) (words c.args.ts.now) c.in_err-next.ensures)
 
-pub returns-in-err-items : goal.returns-in-err-items
+pub returns-in_err-items : goal.returns-in_err-items
 unfolding read_goal
-returns-in-err-items c =
+returns-in_err-items c =
     let ws = words c.args.ts.now in
-    let s = ap (λ x. read_content 16 (scope x) (drop c.in-ok-next.next ws)) (sym c.closed.ensures) in
-    exit_goal c.from-residual-in-err-items.result c.from-residual-in-err-items.ensures.1 (goal_led (read_content 16 closed) ws c.in-ok-next.ensures (led c.in-err-items.ensures (λ r e. s ∙ e) (λ n w r e. s ∙ e)))
+    let s = ap (λ x. read_content 16 (scope x) (drop c.in_ok-next.next ws)) (sym c.closed.ensures) in
+    exit_goal c.from_residual-in_err-items.result c.from_residual-in_err-items.ensures.1 (goal_led (read_content 16 closed) ws c.in_ok-next.ensures (led c.in_err-items.ensures (λ r e. s ∙ e) (λ n w r e. s ∙ e)))
 
-pub returns-in-err-end : goal.returns-in-err-end
+pub returns-in_err-end : goal.returns-in_err-end
 unfolding read_goal
-returns-in-err-end c =
+returns-in_err-end c =
     let ws = words c.args.ts.now in
-    let k = c.in-ok-items.ensures in
-    let s = ap (λ x. read_content 16 (scope x) (drop c.in-ok-next.next ws)) (sym c.closed.ensures) in
-    exit_goal c.from-residual-in-err-end.result c.from-residual-in-err-end.ensures.1 (stop_led (read_content 16 closed) ws c.in-ok-next.ensures (s ∙ k.2) c.in-err-end.ensures)
+    let k = c.in_ok-items.ensures in
+    let s = ap (λ x. read_content 16 (scope x) (drop c.in_ok-next.next ws)) (sym c.closed.ensures) in
+    exit_goal c.from_residual-in_err-end.result c.from_residual-in_err-end.ensures.1 (stop_led (read_content 16 closed) ws c.in_ok-next.ensures (s ∙ k.2) c.in_err-end.ensures)
 
 pub returns-then-end-ts : goal.returns-then-end-ts
 unfolding read_goal
 returns-then-end-ts c =
     let ws = words c.args.ts.now in
-    let k = c.in-ok-items.ensures in
-    let s = ap (λ x. read_content 16 (scope x) (drop c.in-ok-next.next ws)) (sym c.closed.ensures) in
-    let w = some_word c.args.ts.now c.in-ok-end.end c.if-end-ts.true in
-    record { found = goal_more (read_content 16 closed) ws c.in-ok-next.ensures (s ∙ k.2) c.in-ok-end.ensures w.0 w.1 w.2 }
+    let k = c.in_ok-items.ensures in
+    let s = ap (λ x. read_content 16 (scope x) (drop c.in_ok-next.next ws)) (sym c.closed.ensures) in
+    let w = some_word c.args.ts.now c.in_ok-end.end c.if-end-ts.true in
+    record { found = goal_more (read_content 16 closed) ws c.in_ok-next.ensures (s ∙ k.2) c.in_ok-end.ensures w.0 w.1 w.2 }
 
 pub returns : goal.returns
 unfolding read_goal
 returns c =
     let ws = words c.args.ts.now in
-    let k = c.in-ok-items.ensures in
-    let s = ap (λ x. read_content 16 (scope x) (drop c.in-ok-next.next ws)) (sym c.closed.ensures) in
-    (k.0, ap (λ x. content_of (scope_variables x) k.0) (sym c.closed.ensures) ∙ k.1, goal_all (read_content 16 closed) ws c.in-ok-next.ensures (s ∙ k.2) c.in-ok-end.ensures (drop_end c.args.ts.now c.in-ok-end.end c.if-end-ts.false))
+    let k = c.in_ok-items.ensures in
+    let s = ap (λ x. read_content 16 (scope x) (drop c.in_ok-next.next ws)) (sym c.closed.ensures) in
+    (k.0, ap (λ x. content_of (scope_variables x) k.0) (sym c.closed.ensures) ∙ k.1, goal_all (read_content 16 closed) ws c.in_ok-next.ensures (s ∙ k.2) c.in_ok-end.ensures (drop_end c.args.ts.now c.in_ok-end.end c.if-end-ts.false))

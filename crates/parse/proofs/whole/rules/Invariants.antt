@@ -7,4 +7,4 @@ use Rattle.parse.proofs.Rows.{Collects}
 use Rattle.parse.proofs.whole.rules.Given as goal
 
 abbrev pub invariant-loop-turn : goal.invariant-loop-turn
-invariant-loop-turn l = Collects (words l.ts) (read_book (words l.ts)) l.-turn (spelled (vec_items l.labels)) l.at (map rule_view (vec_items l.list))
+invariant-loop-turn l = Collects (words l.ts) (read_book (words l.ts)) l._turn (spelled (vec_items l.labels)) l.at (map rule_view (vec_items l.list))

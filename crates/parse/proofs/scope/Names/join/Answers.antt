@@ -12,9 +12,9 @@ returns-in-Some c = let f = c.in-Some.ensures in joins_known (variables c.args.s
 pub returns-then-count-ge6 : goal.returns-then-count-ge6
 returns-then-count-ge6 c =
     let e = variables_length c.args.self.now in
-    binding_over (variables c.args.self.now) (name_bytes c.args.name) c.in-default.ensures (omega (arith, e))
+    binding_over (variables c.args.self.now) (name_bytes c.args.name) c.in_default.ensures (omega (arith, e))
 
 pub returns : goal.returns
 returns c =
     let e = variables_length c.args.self.now in
-    joins_new (variables c.args.self.now) _ (name_bytes c.args.name) c.len-count.result c.in-default.ensures (omega (arith, c.if-count-ge6.false)) (c.len-count.ensures ∙ sym e) (ap spelled c.in-ok-push.ensures.items ∙ map_push name_bytes (vec_items c.args.self.now.list) c.args.name)
+    joins_new (variables c.args.self.now) _ (name_bytes c.args.name) c.len-count.result c.in_default.ensures (omega (arith, c.if-count-ge6.false)) (c.len-count.ensures ∙ sym e) (ap spelled c.in_ok-push.ensures.items ∙ map_push name_bytes (vec_items c.args.self.now.list) c.args.name)
