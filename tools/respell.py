@@ -70,7 +70,13 @@ def own_names():
 
 
 def turned(text, names):
-    return TOKEN.sub(lambda m: names.get(m.group(0), m.group(0)), text)
+    def new(m):
+        # behind a dot such a name is a step's, which follows the function
+        if m.group(0) in OTHERWISE and text[m.start() - 1 : m.start()] == ".":
+            return m.group(0)
+        return names.get(m.group(0), m.group(0))
+
+    return TOKEN.sub(new, text)
 
 
 def turned_code(text, names):

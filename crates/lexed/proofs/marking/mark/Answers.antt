@@ -12,8 +12,8 @@ loop-i-preserved c =
     let h : i - 1 < length c.args.list.now = omega (arith, c.loop-i.auto.i) in
     let inv = subst (λ k. MarkedFrom c.args.list.now c.loop-i.list c.loop-i.colon c.loop-i.guard k) e c.loop-i.invariant in
     marked_more c.args.list.now c.loop-i.list c.loop-i.colon c.loop-i.guard (i - 1) c.index-list-i.result inv c.loop-i.auto.list h c.index-list-i.is
-    c.marked-by.result c.is-colon-colon.result c.guard-from-ahead.result c.starts-at-starts.result
-    c.guard-from-ahead.ensures c.starts-at-starts.ensures c.marked-by.ensures.word c.marked-by.ensures.place c.is-colon-colon.ensures
+    c.marked_by.result c.is_colon-colon.result c.guard_from-ahead.result c.starts_at-starts.result
+    c.guard_from-ahead.ensures c.starts_at-starts.ensures c.marked_by.ensures.word c.marked_by.ensures.place c.is_colon-colon.ensures
 
 pub returns : goal.returns
 returns c =

@@ -10,22 +10,22 @@ loop-turn-init c =
 
 pub returns-in-Err : goal.returns-in-Err
 returns-in-Err c =
-    at_fault c.args.text.now c.loop-turn.-turn c.loop-turn.words.at _ c.loop-turn-test.true c.loop-turn.invariant.1 _ c.loop-turn.invariant.0
-    c.in-Err.fault c.next-word.new.self.at c.ending-of.result c.ending-of.ensures c.in-Err.ensures.read
+    at_fault c.args.text.now c.loop-turn._turn c.loop-turn.words.at _ c.loop-turn-test.true c.loop-turn.invariant.1 _ c.loop-turn.invariant.0
+    c.in-Err.fault c.next_word.new.self.at c.ending_of.result c.ending_of.ensures c.in-Err.ensures.read
 
-pub returns-in-default : goal.returns-in-default
-returns-in-default c =
-    at_end c.args.text.now c.loop-turn.-turn c.loop-turn.words.at _ c.loop-turn-test.true c.loop-turn.invariant.1 _ c.loop-turn.invariant.0
-    c.in-Ok.next c.next-word.new.self.at c.in-default.is c.in-Ok.ensures.read
+pub returns-in_default : goal.returns-in_default
+returns-in_default c =
+    at_end c.args.text.now c.loop-turn._turn c.loop-turn.words.at _ c.loop-turn-test.true c.loop-turn.invariant.1 _ c.loop-turn.invariant.0
+    c.in-Ok.next c.next_word.new.self.at c.in_default.is c.in-Ok.ensures.read
 
 pub loop-turn-preserved : goal.loop-turn-preserved
 loop-turn-preserved c =
-    let grown = ap (map placed) c.in-ok-push.ensures.items ∙ map_push placed (vec_items c.loop-turn.list) c.token-of.result in (
-      ap (λ x. x.now) c.next-word.ensures.same ∙ c.loop-turn.invariant.0,
-      subst (λ l. Reading c.args.text.now (c.loop-turn.-turn + 1) c.next-word.new.self.at l) (sym grown)
-          (at_word c.args.text.now c.loop-turn.-turn c.loop-turn.words.at _ c.loop-turn-test.true c.loop-turn.invariant.1 _ c.loop-turn.invariant.0
-          c.in-Ok.next c.in-Some.word c.next-word.new.self.at (placed c.token-of.result) c.in-Some.is c.token-of.ensures c.in-Ok.ensures.read),
+    let grown = ap (map placed) c.in_ok-push.ensures.items ∙ map_push placed (vec_items c.loop-turn.list) c.token_of.result in (
+      ap (λ x. x.now) c.next_word.ensures.same ∙ c.loop-turn.invariant.0,
+      subst (λ l. Reading c.args.text.now (c.loop-turn._turn + 1) c.next_word.new.self.at l) (sym grown)
+          (at_word c.args.text.now c.loop-turn._turn c.loop-turn.words.at _ c.loop-turn-test.true c.loop-turn.invariant.1 _ c.loop-turn.invariant.0
+          c.in-Ok.next c.in-Some.word c.next_word.new.self.at (placed c.token_of.result) c.in-Some.is c.token_of.ensures c.in-Ok.ensures.read),
     )
 
 pub returns : goal.returns
-returns c = ends c.args.text.now c.loop-turn.-turn c.loop-turn.words.at _ c.loop-turn-test.false c.loop-turn.invariant.1
+returns c = ends c.args.text.now c.loop-turn._turn c.loop-turn.words.at _ c.loop-turn-test.false c.loop-turn.invariant.1

@@ -4,4 +4,4 @@ use Rattle.lexed.proofs.Turns.{Reading}
 use Rattle.lexed.proofs.raw.collect.Given as goal
 
 abbrev pub invariant-loop-turn : goal.invariant-loop-turn
-invariant-loop-turn l = (l.words.text.now ≡ l.text) × Reading l.text l.-turn l.words.at (map placed (vec_items l.list))
+invariant-loop-turn l = (l.words.text.now ≡ l.text) × Reading l.text l._turn l.words.at (map placed (vec_items l.list))

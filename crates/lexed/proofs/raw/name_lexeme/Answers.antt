@@ -7,5 +7,5 @@ use Rattle.lexed.proofs.raw.name_lexeme.Goals as goal
 pub returns : goal.returns
 returns c =
     other_name (name_bytes c.args.name)
-    (λ e. false≢true (c.if-same-name.ensures.1 (e ∙ sym c.truth.ensures)))
-    (λ e. false≢true (c.if-same-name-2.ensures.1 (e ∙ sym c.failure.ensures)))
+    (λ e. false≢true (c.if-same_name.ensures.1 (e ∙ sym c.truth.ensures)))
+    (λ e. false≢true (c.if-same_name-2.ensures.1 (e ∙ sym c.failure.ensures)))
