@@ -9,8 +9,8 @@ use Rattle.book.proofs.predicate.Predicates.note.Goals as goal
 pub returns-then-knows : goal.returns-then-knows
 returns-then-knows c = noted_known (predicates c.args.self.now) (mention c.args.fact.now) (sym c.if-knows.ensures)
 
-pub returns-then-len-ge-MOST-PREDICATES : goal.returns-then-len-ge-MOST-PREDICATES
-returns-then-len-ge-MOST-PREDICATES c =
+pub returns-then-len-ge-MOST_PREDICATES : goal.returns-then-len-ge-MOST_PREDICATES
+returns-then-len-ge-MOST_PREDICATES c =
     let e = predicates_length c.args.self.now in
     noted_over (predicates c.args.self.now) (mention c.args.fact.now) (sym c.if-knows.ensures) (omega (arith, e))
 
@@ -20,5 +20,5 @@ returns c =
     let f = c.args.fact.now in
     let e = predicates_length c.args.self.now in
     let n = counted f c.arity-count.result c.arity-count.ensures in
-    noted_new ps (mention f) (sym c.if-knows.ensures) (omega (arith, e, c.if-len-ge-MOST-PREDICATES.false))
-    ∙ ap these (sym (ap (map coded) c.in-ok-push.ensures.items ∙ map_push coded (vec_items c.args.self.now.list) _ ∙ ap (λ m. ps ++ (name_bytes f.name, m) ∷ []) n))
+    noted_new ps (mention f) (sym c.if-knows.ensures) (omega (arith, e, c.if-len-ge-MOST_PREDICATES.false))
+    ∙ ap these (sym (ap (map coded) c.in_ok-push.ensures.items ∙ map_push coded (vec_items c.args.self.now.list) _ ∙ ap (λ m. ps ++ (name_bytes f.name, m) ∷ []) n))

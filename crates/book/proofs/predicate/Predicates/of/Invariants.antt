@@ -5,4 +5,4 @@ use Rattle.book.proofs.Numbering.{ListingOn}
 use Rattle.book.proofs.predicate.Predicates.of.Given as goal
 
 abbrev pub invariant-loop-fact : goal.invariant-loop-fact
-invariant-loop-fact l = ListingOn mention l.facts l.fact-index (map coded (vec_items l.all.0)) × (vec_len l.all.0 ≤ 32)
+invariant-loop-fact l = ListingOn mention l.facts l.fact-index (map coded (vec_items l.all.list)) × (vec_len l.all.list ≤ 32)

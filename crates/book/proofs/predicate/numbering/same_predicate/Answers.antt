@@ -9,4 +9,4 @@ pub returns-then-predicate-arity : goal.returns-then-predicate-arity
 returns-then-predicate-arity c =
     let a = name_bytes c.args.predicate.now.name in
     let b = name_bytes c.args.name.now in
-    decided c.same-name.result a b c.same-name.ensures ∙ sym (ap (λ t. t && same_name a b) (eq-eqb c.args.predicate.now.arity c.args.arity c.if-predicate-arity.true))
+    decided c.same_name.result a b c.same_name.ensures ∙ sym (ap (λ t. t && same_name a b) (eq-eqb c.args.predicate.now.arity c.args.arity c.if-predicate-arity.true))
