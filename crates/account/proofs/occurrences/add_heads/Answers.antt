@@ -15,4 +15,4 @@ loop-head-preserved c =
     let e : c.loop-head.head ≡ j + 1 = omega arith in
     let h : j < length fs = omega (arith, c.loop-head.auto.head) in
     let inv = subst (λ k. TriedFrom q c.args.rule fs old k (vec_items c.loop-head.out)) e c.loop-head.invariant in
-    tried_more q c.args.rule fs old j c.index-heads-head.result (vec_items c.loop-head.out) _ h c.index-heads-head.is inv c.in-ok-add-head.ensures
+    tried_more q c.args.rule fs old j c.index-heads-head.result (vec_items c.loop-head.out) _ h c.index-heads-head.is inv c.in_ok-add_head.ensures

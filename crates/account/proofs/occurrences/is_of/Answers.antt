@@ -13,4 +13,4 @@ returns-then-count-predicate c =
     let a = name_bytes f.name in
     let b = name_bytes q.name in
     let n : length (mention f).arguments ≡ q.arity = sym (counted f c.count.result c.count.ensures) ∙ c.if-count-predicate.true in
-    decided c.same-name.result a b c.same-name.ensures ∙ sym (ap (λ t. t && same_name a b) (eq-eqb (length (mention f).arguments) q.arity n))
+    decided c.same_name.result a b c.same_name.ensures ∙ sym (ap (λ t. t && same_name a b) (eq-eqb (length (mention f).arguments) q.arity n))
