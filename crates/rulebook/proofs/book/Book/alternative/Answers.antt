@@ -13,10 +13,10 @@ same_place as' bs n i p q = ap (λ (z : List Alternative). get_or z i none) p �
 
 pub returns-then-at-body : goal.returns-then-at-body
 returns-then-at-body c =
-    found (alternative_in c.args.self.now) c.body-body.result.now c.saturating-sub-at.result none _ _ c.index-body-at.is c.if-at-body.true
-    ∙ same_place _ _ c.args.number _ c.body-body.ensures c.saturating-sub-at.ensures
+    found (alternative_in c.args.self.now) c.body-body.result.now c.saturating_sub-at.result none _ _ c.index-body-at.is c.if-at-body.true
+    ∙ same_place _ _ c.args.number _ c.body-body.ensures c.saturating_sub-at.ensures
 
 pub returns : goal.returns
 returns c =
-    past (alternative_in c.args.self.now) c.body-body.result.now c.saturating-sub-at.result none c.if-at-body.false
-    ∙ same_place _ _ c.args.number _ c.body-body.ensures c.saturating-sub-at.ensures
+    past (alternative_in c.args.self.now) c.body-body.result.now c.saturating_sub-at.result none c.if-at-body.false
+    ∙ same_place _ _ c.args.number _ c.body-body.ensures c.saturating_sub-at.ensures

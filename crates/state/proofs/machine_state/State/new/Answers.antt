@@ -4,4 +4,4 @@ use Rattle.state.proofs.machine_state.State.new.Goals as goal
 
 pub returns : goal.returns
 returns g c =
-    same_state _ (fresh g.K.Kind.whole) c.in-ok-stack.ensures c.in-ok-store.ensures.facts c.whole-cells.ensures c.in-ok-history.ensures c.in-ok-store.ensures.next
+    same_state _ (fresh g.K.Kind.whole) c.in_ok-stack.ensures c.in_ok-store.ensures.facts c.whole-cells.ensures c.in_ok-history.ensures c.in_ok-store.ensures.next

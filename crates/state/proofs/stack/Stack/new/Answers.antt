@@ -5,4 +5,4 @@ use Rattle.state.proofs.stack.Stack.new.Goals as goal
 
 pub returns : goal.returns
 unfolding entries
-returns c = ap (λ l. reverse (map entry l)) c.in-ok-list.ensures.items
+returns c = ap (λ l. reverse (map entry l)) c.in_ok-list.ensures.items

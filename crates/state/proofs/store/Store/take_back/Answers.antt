@@ -4,8 +4,8 @@ use Rattle.state.proofs.Ends.{popped_off}
 use Rattle.state.proofs.Places.{popped_rising, popped_next}
 use Rattle.state.proofs.store.Store.take_back.Goals as goal
 
-pub invariant-of-self : goal.invariant-of-self
-invariant-of-self c =
+pub invariant_of-self : goal.invariant_of-self
+invariant_of-self c =
     let s = c.args.self.now in
     let e = c.in-Some.ensures in
     let room : 128 ≤ vec_capacity c.pop.new.self = omega (arith, s.room, e.capacity) in

@@ -5,5 +5,5 @@ use Rattle.texts.proofs.page.Page.cell.Goals as goal
 
 pub returns : goal.returns
 returns c =
-    then _ _ _ _ _ _ c.in-ok-value.ensures
+    then _ _ _ _ _ _ c.in_ok-value.ensures
     (members_passed _ _ _ _ _ _ _ _ (to_z-of_z w32 c.args.least c.ranges.least) (to_z-of_z w32 c.args.greatest c.ranges.greatest) c.members.ensures)

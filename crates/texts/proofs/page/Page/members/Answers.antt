@@ -5,9 +5,9 @@ use Rattle.texts.proofs.page.Page.members.Goals as goal
 
 pub returns : goal.returns
 returns c =
-    then _ _ _ _ _ _ c.in-ok-text.ensures
-    (then _ _ _ _ _ _ (passed _ _ _ _ (to_z-of_z w32 c.args.least c.ranges.least) c.in-ok-number.ensures)
-    (then _ _ _ _ _ _ c.in-ok-text-2.ensures
-    (then _ _ _ _ _ _ (passed _ _ _ _ (to_z-of_z w32 c.args.greatest c.ranges.greatest) c.in-ok-number-2.ensures)
-    (then _ _ _ _ _ _ c.in-ok-text-3.ensures
-    (then _ _ _ _ _ _ c.in-ok-count.ensures c.text-4.ensures)))))
+    then _ _ _ _ _ _ c.in_ok-text.ensures
+    (then _ _ _ _ _ _ (passed _ _ _ _ (to_z-of_z w32 c.args.least c.ranges.least) c.in_ok-number.ensures)
+    (then _ _ _ _ _ _ c.in_ok-text-2.ensures
+    (then _ _ _ _ _ _ (passed _ _ _ _ (to_z-of_z w32 c.args.greatest c.ranges.greatest) c.in_ok-number-2.ensures)
+    (then _ _ _ _ _ _ c.in_ok-text-3.ensures
+    (then _ _ _ _ _ _ c.in_ok-count.ensures c.text-4.ensures)))))
