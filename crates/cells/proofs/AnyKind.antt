@@ -1,9 +1,9 @@
 -- What follows from the laws of any kind.
-use Rattle.std.proofs.Common.{◌≡◌, ℕ, Bool, true, false, ◌&&◌, ◌⊎◌, ℤ, Some, None, Option, sym, refl, ap, ◌∙◌, subst, inl, inr, arith}
+use Rattle.std.proofs.Common.{◌≡◌, ℕ, Bool, true, false, ◌&&◌, ◌⊎◌, ℤ, Some, None, Option, sym, ap, ◌∙◌, subst, inl, inr}
 use Rattle.std.proofs.lemmas.Bool.{and_parts, and_from, and_left, cases_Bool}
 use Rattle.cells.specs.declared.relations.Relation.{Relation}
 use Rattle.cells.specs.declared.relations.Telling.{Telling}
-use Rattle.cells.specs.Relations.{holds, meets, relation_of}
+use Rattle.cells.specs.Relations.{meets, relation_of}
 use Rattle.cells.specs.Laws.{Inhabited, Extensional, Leaves, Narrows, Answers}
 use Rattle.cells.specs.Settles.{Settles}
 

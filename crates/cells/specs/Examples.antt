@@ -1,5 +1,5 @@
 -- Examples, worked out.
-use Rattle.std.specs.Prelude.{◌≡◌, ℕ, Bool, true, false, ℤ, pos, negsuc, Some, None, Option}
+use Rattle.std.specs.Prelude.{◌≡◌, ℕ, true, false, pos, negsuc, Some, None}
 use Rattle.cells.specs.declared.relations.Relation.TheVariants as relation
 use Rattle.cells.specs.declared.relations.Telling.TheVariants as telling
 use Rattle.cells.specs.Bounds.{packed, bounds_asked, bounds_narrowed}

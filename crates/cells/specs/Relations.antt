@@ -1,5 +1,5 @@
 -- What a relation says of two whole numbers.
-use Rattle.std.specs.Prelude.{◌≡◌, Bool, true, false, ◌&&◌, ◌||◌, ℤ, ◌≤ℤ◌, ◌<ℤ◌, Decides, ◌≢◌, int_le, int_lt}
+use Rattle.std.specs.Prelude.{◌≡◌, Bool, ◌&&◌, ◌||◌, ℤ, ◌≤ℤ◌, ◌<ℤ◌, Decides, ◌≢◌, int_le, int_lt}
 use Rattle.cells.specs.declared.relations.Relation.{Relation}
 use Rattle.cells.specs.declared.relations.Telling.{Telling}
 use Rattle.cells.specs.declared.relations.Relation.TheVariants as relation

@@ -1,22 +1,21 @@
 -- The laws of sets.
-use Rattle.std.specs.Prelude.{◌≡◌, ℕ, zero, suc, ◌+◌, ◌-◌, ◌*◌, ◌/◌, ◌%◌, ◌^◌, ◌<◌, ◌≤◌, Bool, true, false, cond, ◌&&◌, ◌⊎◌, ℤ, pos, negsuc, ◌+ℤ◌, ◌-ℤ◌, ◌≤ℤ◌, Some, None, Decides, Option, count_ones, int_le, nat_le, nat_lt, unsigned_abs}
+use Rattle.std.specs.Prelude.{◌≡◌, ℕ, ◌+◌, ◌^◌, ◌<◌, ◌≤◌, Bool, true, false, cond, ◌&&◌, ◌⊎◌, ℤ, pos, negsuc, ◌+ℤ◌, ◌≤ℤ◌, Some, None, Decides, Option, count_ones, int_le, nat_le, nat_lt, unsigned_abs}
 use Rattle.std.proofs.Math.Path.{refl, sym, ap}
 use Rattle.std.proofs.Common.{ap₂, ◌∙◌, subst, inl, inr}
 use Rattle.std.proofs.Math.Nat.{lt_of_le_of_lt}
 use native.Mathlib.Omega.{arith}
 use borrow.Author.Differences.{ints}
 use Rattle.std.specs.Int.Bits.{bit_and, and_zero_l}
-use Rattle.std.specs.Int.Count.{ones_in, count_leading_zeros, count_trailing_zeros}
-use Rattle.std.proofs.lemmas.Bool.{and_parts, and_from, leb-true, le-leb, ltb-true, ltb-false, lt-ltb, true≢false, both_ways, cases_Bool}
+use Rattle.std.specs.Int.Count.{ones_in}
+use Rattle.std.proofs.lemmas.Bool.{and_parts, and_from, le-leb, ltb-true, ltb-false, lt-ltb, true≢false, both_ways, cases_Bool}
 use Rattle.std.proofs.lemmas.Nat.{pow_pos, and_le_l}
 use Rattle.std.proofs.lemmas.Bool.Decides.{nat_tests}
-use Rattle.cells.specs.declared.relations.Relation.{Relation}
 use Rattle.cells.specs.declared.relations.Telling.{Telling}
 use Rattle.cells.specs.declared.spans.Span.{Span}
 use Rattle.cells.specs.Relations.{holds, meets}
 use Rattle.cells.specs.Laws.{between, tally, Ends, Fits64, Inhabited, Confined, Extensional, Entire, Leaves, Narrows, Answers, First, Last, Counts}
 use Rattle.cells.specs.Spans.{span, raised, lowered, all_satisfy}
-use Rattle.cells.specs.Sets.{bit, is_set, set_member, window, some_bits, set_within, set_narrowed, lowest_bit, highest_bit, set_ends, set_asked, set_least, set_greatest, set_counted}
+use Rattle.cells.specs.Sets.{bit, is_set, set_member, window, some_bits, set_within, set_narrowed, lowest_bit, highest_bit, set_asked, set_least, set_greatest, set_counted}
 use Rattle.cells.specs.SpanLaws.{clipped, all_said, raised_above, ends_some}
 use Rattle.cells.specs.Tallies.{tally_same, tally_none}
 use Rattle.cells.specs.Bitwise.{bits_same, bit_of_and, bit_window, bit_beyond, trailing_bit, leading_bit, all_ones, tally_bits}

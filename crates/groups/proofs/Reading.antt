@@ -1,14 +1,13 @@
 -- Reading is the one outcome that the bytes at a place have. Assumes nothing.
-use Rattle.std.proofs.Common.{◌≡◌, ℕ, zero, suc, ◌+◌, ◌-◌, ◌*◌, ◌^◌, ◌<◌, ◌≤◌, min, Bool, true, false, cond, ◌&&◌, eqb, ltb, leb, ◌⊎◌, List, [], ◌∷◌, ◌++◌, length, get_or, take, drop, Ok, Err, Result, sym, refl, ap, ◌∙◌, subst, inl, inr, ⊎_elim, arith}
+use Rattle.std.proofs.Common.{◌≡◌, ℕ, zero, suc, ◌+◌, ◌-◌, ◌^◌, ◌<◌, ◌≤◌, min, leb, ◌⊎◌, List, [], ◌∷◌, ◌++◌, length, get_or, take, drop, Ok, Err, Result, sym, refl, ap, ◌∙◌, subst, inl, inr, ⊎_elim, arith}
 use Rattle.std.specs.List.{prefix_len}
 use Rattle.std.proofs.lemmas.List.{length-drop, length-append, length-take-le, get_or-drop, get_or-take, take-append-drop, take_at, drop_at, drop-drop}
-use Rattle.std.proofs.lemmas.List.Sums.{prefix_len-le-length}
-use Rattle.std.proofs.lemmas.Bool.{lt-ltb, le-ltb, le-leb, lt-leb, leb-true, cond-true, cond-false, cases_lt}
+use Rattle.std.proofs.lemmas.Bool.{le-leb, lt-leb, cond-true, cond-false, cases_lt}
 use Rattle.std.proofs.lemmas.Bool.Decides.{nat_tests}
 use Rattle.groups.specs.declared.numbers.NumberFault.{NumberFault}
 use Rattle.groups.specs.declared.numbers.NumberFault.TheVariants.{Short, Shape}
 use Rattle.groups.specs.Groups.{groups, value, high, Formed, last, more, Stands, written}
-use Rattle.groups.specs.Reading.{run, taken, read_at, fault_place, Within}
+use Rattle.groups.specs.Reading.{run, taken, read_at, Within}
 use Rattle.groups.specs.Laws.{Bytes, Cut, Outcome, whole, short, misshapen, ReadsExactly, AcceptsGroups, ComesBack, TooWide, Placed, Samples}
 use Rattle.groups.proofs.Shapes.{formed_groups, value_groups, only, length_formed, mono_groups, end_of, end_at, exact, one_too_many}
 use Rattle.groups.proofs.Writing.{stands_written}

@@ -1,10 +1,9 @@
 -- The groups of a number are its one shortest form. Assumes nothing.
-use Rattle.std.proofs.Common.{◌≡◌, ℕ, zero, suc, ◌+◌, ◌-◌, ◌*◌, ◌/◌, ◌%◌, ◌^◌, ◌<◌, ◌≤◌, ltb, ◌⊎◌, List, [], ◌∷◌, length, get_or, sym, refl, ap, ◌∙◌, subst, inl, inr, ⊎_elim, pow-suc, arith}
-use native.Mathlib.Nat.{div-lt_self}
+use Rattle.std.proofs.Common.{◌≡◌, ℕ, zero, suc, ◌+◌, ◌*◌, ◌/◌, ◌%◌, ◌^◌, ◌<◌, ◌≤◌, ltb, ◌⊎◌, List, [], ◌∷◌, length, get_or, sym, refl, ap, ◌∙◌, subst, inl, inr, ⊎_elim, pow-suc, arith}
 use Rattle.std.proofs.lemmas.Nat.{div_below}
 use Rattle.std.proofs.lemmas.Bool.{lt-ltb, le-ltb, cond-true, cond-false, cases_lt}
 use Rattle.groups.specs.Groups.{groups, groups_in, value, Formed, last, more}
-use Rattle.groups.specs.Laws.{Shortest, OneShortest}
+use Rattle.groups.specs.Laws.{OneShortest}
 
 low_in : (k n : ℕ) → n < 128 → groups_in (suc k) n ≡ n ∷ []
 low_in k n h = cond-true (ltb n 128) _ _ (lt-ltb n 128 h)

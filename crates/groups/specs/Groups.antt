@@ -1,5 +1,5 @@
 -- Numbers as groups of seven bits, lowest first, the top bit set on all but the last. Assumes nothing.
-use Rattle.std.specs.Prelude.{◌≡◌, ℕ, zero, suc, ◌+◌, ◌*◌, ◌/◌, ◌%◌, ◌<◌, ◌≤◌, Bool, cond, List, [], ◌∷◌, ◌++◌, drop, set, nat_le, nat_lt, slice_set}
+use Rattle.std.specs.Prelude.{◌≡◌, ℕ, zero, suc, ◌+◌, ◌*◌, ◌/◌, ◌%◌, ◌<◌, ◌≤◌, Bool, cond, List, [], ◌∷◌, ◌++◌, drop, nat_le, nat_lt, slice_set}
 
 -- the groups of a number, in at most so many steps (`others` is computed only where it is used)
 abbrev pub groups_in : ℕ → ℕ → List ℕ

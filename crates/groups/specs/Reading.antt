@@ -1,5 +1,5 @@
 -- Reading a number of a given width at a place. Assumes nothing.
-use Rattle.std.specs.Prelude.{ℕ, suc, ◌+◌, ◌^◌, ◌<◌, ◌≤◌, min, Bool, cond, ◌&&◌, List, length, take, drop, Ok, Err, Result, ◌==◌, nat_le, nat_lt}
+use Rattle.std.specs.Prelude.{ℕ, suc, ◌+◌, ◌^◌, ◌<◌, ◌≤◌, min, cond, ◌&&◌, List, length, take, drop, Ok, Err, Result, ◌==◌, nat_le, nat_lt}
 use Rattle.std.specs.List.{prefix_len}
 use Rattle.groups.specs.declared.numbers.NumberFault.{NumberFault}
 use Rattle.groups.specs.declared.numbers.NumberFault.TheVariants.{Short, Shape}

@@ -43,7 +43,7 @@ mod tests {
         assert_eq!(rt; order.take_in(&[named(3), named(4)]), Ok(()));
         assert_eq!(rt; order.give_up(), Some(3));
         let rest = drain(&mut order, rt.alloc())?;
-        assert!(rt; rest.as_slice() == [4, 1, 2]);
+        assert!(rt; rest.as_slice() == [4, 1, 2].as_slice());
         Ok(())
     }
 
@@ -54,7 +54,7 @@ mod tests {
         assert_eq!(rt; order.take_in(&[named(3), named(4)]), Ok(()));
         assert_eq!(rt; order.give_up(), Some(1));
         let rest = drain(&mut order, rt.alloc())?;
-        assert!(rt; rest.as_slice() == [2, 3, 4]);
+        assert!(rt; rest.as_slice() == [2, 3, 4].as_slice());
         Ok(())
     }
 

@@ -25,10 +25,10 @@ module _ {X Y : Type 0} (f : X → Y) where
   long items = length-reverse (map f items) ∙ length-map items f
 
   -- the last comes off, if there is one
-  pub popped : (old new : List X) (n : ℕ) (r : Option X) → old ≡ new ++ option_to_list r → is_some r ≡ ltb 0 n → n ≡ length old → reverse (map f new) ≡ below (reverse (map f old))
+  pub popped : (old new : List X) (n : ℕ) (r : Option X) → old ≡ new ++ option_to_list r → (0 < n → is_some r ≡ true) → n ≡ length old → reverse (map f new) ≡ below (reverse (map f old))
   popped old new n (Some x) e t l = sym (ap below (turned new old x e))
   popped [] new n None e t l = ap (λ k. reverse (map f k)) (sym (append-nil new) ∙ sym e)
-  popped (x ∷ xs) new n None e t l = absurd (let h : ltb 0 n ≡ true = lt-ltb 0 n (omega arith) in let z : ◌≡◌ {A = Bool} false true = t ∙ h in false_true z)
+  popped (x ∷ xs) new n None e t l = let z : ◌≡◌ {A = Bool} false true = t (omega arith) in cc
 
   -- the top of a list that is not empty
   pub topped : (items : List X) (d : X) → 0 < length items → first (reverse (map f items)) ≡ Some (f (get_or items (length items - 1) d))

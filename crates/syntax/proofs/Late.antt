@@ -1,10 +1,10 @@
 -- What the grammar says has faults 5 to 8 only. Assumes nothing.
-use Rattle.std.proofs.Common.{◌≡◌, ℕ, zero, suc, ◌-◌, ◌≤◌, Bool, true, false, cond, ltb, leb, List, [], ◌∷◌, ◌++◌, length, refl, arith}
-use Rattle.syntax.specs.Syntax.{W, name, var, num, weight, sign, Note, fine, flaw, Said, spoiled}
+use Rattle.std.proofs.Common.{ℕ, zero, suc, ◌-◌, Bool, true, false, cond, ltb, leb, List, [], ◌∷◌, ◌++◌, length, arith}
+use Rattle.syntax.specs.Syntax.{W, Note, fine, flaw, Said, spoiled}
 use Rattle.syntax.specs.Parts.{Some, last, more, say_all, say_parts, list_all, say_many}
 use Rattle.syntax.specs.Marks.{comma, semicolon, simplify, simplify_guarded, propagate, propagate_guarded}
-use Rattle.syntax.specs.Tree.{Number, positive, negative, Sum, alone, raised, lowered, Left, number, cell, variable, Right, fixed, summed, Argument, held, valued, Fact, bare, applied, Relation, Telling, Comparison, compared, Item, added, told, failing, Content, nil, items, Alternative, plainly, weighted, Guard, none, guarded, Arrow, propagating, simplifying, simpagating, Label, Rule, rule}
-use Rattle.syntax.specs.Grammar.{Scope, binding, bound, closed, among, var_note, next_left, next_head, next_all, same, seal, scope_of, behind, count, cell_note, weight_note, word_note, label_note, label_word, spelling, say_number, say_cell, say_variable, say_left, say_sum, say_right, say_argument, say_fact, say_head, say_adding, relation_code, telling_code, say_comparison, say_asking, say_telling, say_item, say_content, say_alternative, say_body, say_guard, say_heads, say_arrow, say_rule, next_rule, say_book, say_goal}
+use Rattle.syntax.specs.Tree.{Number, positive, negative, Sum, alone, raised, lowered, Left, number, cell, variable, Right, fixed, summed, Argument, held, valued, Fact, bare, applied, Comparison, compared, Item, added, told, failing, Content, nil, items, Alternative, plainly, weighted, Guard, none, guarded, Arrow, propagating, simplifying, simpagating, Rule, rule}
+use Rattle.syntax.specs.Grammar.{Scope, binding, bound, closed, among, var_note, next_left, next_head, next_all, same, seal, scope_of, behind, count, label_note, label_word, spelling, say_number, say_cell, say_variable, say_left, say_sum, say_right, say_argument, say_fact, say_head, relation_code, telling_code, say_comparison, say_asking, say_item, say_content, say_alternative, say_body, say_guard, say_heads, say_arrow, say_rule, next_rule, say_book, say_goal}
 use Rattle.syntax.specs.Late.{LateBy, Late, FaultsAreLate}
 
 -- a note of its own

@@ -1,5 +1,5 @@
 -- The grammar: what each part of a book or goal says in words, each word with the fault that it has, if any. Assumes nothing.
-use Rattle.std.specs.Prelude.{ℕ, zero, suc, ◌-◌, Bool, true, false, cond, ◌&&◌, ◌||◌, List, [], ◌∷◌, ◌++◌, length, ◌==◌, nat_le, nat_lt}
+use Rattle.std.specs.Prelude.{ℕ, suc, ◌-◌, Bool, true, false, cond, ◌&&◌, ◌||◌, List, [], ◌∷◌, ◌++◌, length, ◌==◌, nat_le, nat_lt}
 use Rattle.syntax.specs.Syntax.{W, name, var, num, weight, sign, Note, fine, flaw, Said}
 use Rattle.syntax.specs.Parts.{Some, last, more, say_parts, say_many}
 use Rattle.syntax.specs.Marks.{at_mark, comma, dot, semicolon, bar, backslash, open_mark, close_mark, plus, minus, colon, hash, ask, less, at_most, equal, at_least, greater, different, simplify, simplify_guarded, propagate, propagate_guarded, true_word, fail_word}

@@ -1,5 +1,5 @@
 -- The faults that words may have by the grammar: 5 to 8 and no others. Assumes nothing.
-use Rattle.std.specs.Prelude.{ℕ, ◌≤◌, List, [], ◌∷◌}
+use Rattle.std.specs.Prelude.{◌≤◌, List, [], ◌∷◌}
 use Rattle.syntax.specs.Syntax.{Note, fine, flaw, Said}
 use Rattle.syntax.specs.Tree.{Rule, Content}
 use Rattle.syntax.specs.Grammar.{say_book, say_goal}

@@ -1,11 +1,11 @@
 -- How each part of a book or goal is read. Assumes nothing.
-use Rattle.std.specs.Prelude.{ℕ, zero, suc, ◌-◌, Bool, true, false, cond, ◌⊎◌, List, [], ◌∷◌, ◌++◌, ◌==◌}
+use Rattle.std.specs.Prelude.{ℕ, ◌-◌, cond, ◌⊎◌, List, [], ◌∷◌, ◌==◌}
 use Rattle.std.proofs.Common.{inl, inr}
-use Rattle.syntax.specs.Syntax.{W, name, var, num, weight, sign, kind, Note, fine, flaw, Reader, one, nothing, both, fork, via, only_end}
-use Rattle.syntax.specs.Parts.{Some, last, more, mark, parts, many}
+use Rattle.syntax.specs.Syntax.{W, name, var, num, weight, sign, kind, Note, fine, Reader, one, nothing, both, fork, via, only_end}
+use Rattle.syntax.specs.Parts.{Some, mark, parts, many}
 use Rattle.syntax.specs.Marks.{at_mark, comma, dot, semicolon, bar, backslash, open_mark, close_mark, plus, minus, colon, hash, ask, less, at_most, equal, at_least, greater, different, simplify, simplify_guarded, propagate, propagate_guarded, true_word, fail_word}
 use Rattle.syntax.specs.Tree.{Number, positive, negative, Sum, alone, raised, lowered, Left, number, cell, variable, Right, fixed, summed, Argument, held, valued, Fact, bare, applied, Relation, is_less, is_at_most, is_equal, is_at_least, is_greater, is_different, Telling, tells_less, tells_at_most, tells_equal, tells_at_least, tells_greater, Comparison, compared, Item, added, told, failing, Content, nil, items, Alternative, plainly, weighted, Guard, none, guarded, Arrow, propagating, simplifying, simpagating, Label, named, named_true, named_fail, Rule, rule}
-use Rattle.syntax.specs.Grammar.{Scope, binding, bound, closed, next_left, next_head, same, seal, scope_of, next_all, behind, count, cell_note, word_note, weight_note, label_note, next_rule}
+use Rattle.syntax.specs.Grammar.{Scope, binding, closed, next_left, next_head, same, seal, scope_of, next_all, behind, count, cell_note, word_note, weight_note, label_note, next_rule}
 
 -- the kinds of words that begin a part
 abbrev pub name_kind : ℕ

@@ -1,5 +1,5 @@
 -- Words, readers of words, and what a part of the grammar says in words. Assumes nothing.
-use Rattle.std.specs.Prelude.{◌≡◌, ℕ, zero, suc, Bool, true, false, cond, ◌||◌, ◌⊎◌, List, [], ◌∷◌, ◌++◌, ◌==◌}
+use Rattle.std.specs.Prelude.{ℕ, suc, Bool, false, cond, ◌||◌, ◌⊎◌, List, [], ◌∷◌, ◌==◌}
 use Rattle.std.proofs.Common.{inl, inr}
 
 -- a word: a name with the place where it stands, a variable, a number, a number that is a weight, or a mark by its code

@@ -1,13 +1,13 @@
 -- At any time: every end was met or lies on or beyond one open path.
-use Rattle.std.proofs.Common.{◌≡◌, ℕ, zero, suc, ◌+◌, ◌<◌, ◌≤◌, ◌⊎◌, List, [], ◌∷◌, ◌++◌, map, sym, refl, ap, ◌∙◌, subst, inl, inr, ⊎_elim, arith}
+use Rattle.std.proofs.Common.{◌≡◌, ℕ, ◌+◌, ◌<◌, ◌≤◌, ◌⊎◌, List, [], ◌∷◌, ◌++◌, map, sym, refl, ap, subst, inl, inr, arith}
 use Rattle.std.specs.List.{ContainsAt as Has, AllByRecursion as All}
-use Rattle.std.proofs.ByRecursion.{all-has, has_append_left, has_append_right}
+use Rattle.std.proofs.ByRecursion.{all-has, has_append_right}
 use Rattle.std.proofs.lemmas.List.{append-nil, append_assoc, map-id}
 use Rattle.std.proofs.lemmas.Bool.{cases_lt}
-use Rattle.tree.specs.Walks.{Path, Standing, branch, choice, leaf, Machine, Stops, Walks, Ends}
-use Rattle.tree.specs.Laws.{Once, Covering}
+use Rattle.tree.specs.Walks.{Path, Standing, branch, choice, leaf, Machine, Walks, Ends}
+use Rattle.tree.specs.Laws.{Covering}
 use Rattle.tree.proofs.Fronts.{no_end}
-use Rattle.tree.proofs.Counts.{delta, delta_same, delta_none, delta_cases, times, times_append, children_push, push_nil, has_here, has_there, has_nil, has_cases, has_found, has_counts}
+use Rattle.tree.proofs.Counts.{delta, delta_none, delta_cases, times, times_append, children_push, push_nil, has_here, has_there, has_found, has_counts}
 use Rattle.tree.proofs.Tallies.{EndedEdge, Walked, children_at, all_children, paths, leaves_of, Tally}
 use Rattle.tree.proofs.Wholes.{once_from, Beyond, reach, once, edge_of_path, leaves_of_ends, leaves_of_times, leaves_of_has, all_children_push, all_children_nil}
 

@@ -1,8 +1,8 @@
 -- The units of a search, one more at the end.
-use Rattle.std.proofs.Common.{◌≡◌, ℕ, zero, suc, ◌+◌, Bool, true, false, List, [], ◌∷◌, ◌++◌, fold, sym, refl, ap, ◌∙◌, subst}
+use Rattle.std.proofs.Common.{◌≡◌, ℕ, ◌+◌, false, List, [], ◌∷◌, ◌++◌, fold, sym, refl, ap, ◌∙◌, subst}
 use Rattle.std.proofs.lemmas.List.Sums.{fold_push}
 use Rattle.std.proofs.lemmas.List.{append_assoc, append-nil}
-use Rattle.tree.specs.Walks.{Path, Standing, branch, choice, leaf, Machine, Stops, Walks}
+use Rattle.tree.specs.Walks.{Path, Standing, Machine, Walks}
 use Rattle.tree.specs.Searches.{Work, stepped, entered, exhausted, Told, after, told, leaves_at, Meets, Met}
 use Rattle.tree.proofs.Fronts.{determined}
 

@@ -1,13 +1,12 @@
 -- Two lists in which no path stands twice and that have the same elements are shuffled.
-use Rattle.std.proofs.Common.{◌≡◌, ℕ, zero, suc, ◌+◌, ◌<◌, ◌≤◌, ◌⊎◌, List, [], ◌∷◌, ◌++◌, map, sum_by, sym, refl, ap, ◌∙◌, subst, inl, inr, ⊎_elim, arith}
+use Rattle.std.proofs.Common.{◌≡◌, ℕ, ◌+◌, ◌≤◌, ◌⊎◌, List, [], ◌∷◌, map, sym, refl, ap, ◌∙◌, subst, inl, inr, arith}
 use Rattle.std.specs.List.{ContainsAt as Has}
 use Rattle.std.specs.List.Sorted.{IsPermutation}
 use Rattle.std.proofs.lemmas.List.Sorted.{IsPermutation-refl, IsPermutation-sym, IsPermutation-cons, IsPermutation-trans, IsPermutation-swap, sum_by-IsPermutation}
 use Rattle.std.proofs.ByRecursion.{has_shuffled}
-use Rattle.tree.specs.Walks.{Path, Standing, Machine, Ends, Edge}
-use Rattle.tree.specs.Searches.{Work, Search, out, Reached}
-use Rattle.tree.specs.Laws.{Once, Complete, Account}
-use Rattle.tree.proofs.Counts.{delta, delta_same, delta_cases, times, times_map_shuffled, has_here, has_there, has_nil, has_cases, has_found, has_counts}
+use Rattle.tree.specs.Walks.{Path, Machine}
+use Rattle.tree.specs.Laws.{Once, Complete}
+use Rattle.tree.proofs.Counts.{delta, delta_same, delta_cases, times, times_map_shuffled, has_here, has_there, has_nil, has_cases, has_counts}
 
 swap_two : {X : Type 0} (x y : X) (xs : List X) → IsPermutation (x ∷ y ∷ xs) (y ∷ x ∷ xs)
 swap_two x y xs = IsPermutation-swap (x ∷ y ∷ xs) (y ∷ x ∷ xs) 0 1 (omega arith) (omega arith) refl

@@ -1,14 +1,14 @@
 -- What a search holds after each of its units, over its parts, and what it comes to.
-use Rattle.std.proofs.Common.{◌≡◌, ℕ, zero, suc, ◌+◌, ◌≤◌, Bool, true, false, List, [], ◌∷◌, ◌++◌, map, sym, refl, ap, ◌∙◌, subst, arith}
-use Rattle.std.specs.List.{ContainsAt as Has, AllByRecursion as All}
+use Rattle.std.proofs.Common.{◌≡◌, ℕ, zero, suc, ◌+◌, ◌≤◌, true, List, [], ◌∷◌, ◌++◌, map, sym, refl, ap, ◌∙◌, subst, arith}
+use Rattle.std.specs.List.{AllByRecursion as All}
 use Rattle.std.specs.List.Sorted.{IsPermutation}
 use Rattle.std.proofs.ByRecursion.{All-append, All-push, all_shuffled}
 use Rattle.std.proofs.lemmas.List.Sorted.{IsPermutation-refl}
 use Rattle.std.proofs.lemmas.List.{map-append, map_push, append-nil}
 use Rattle.std.proofs.lemmas.Bool.{false≢true}
-use Rattle.tree.specs.Walks.{Path, Standing, branch, choice, leaf, Machine, Stops, Walks, opened, onward, taken, Ends, Edge}
-use Rattle.tree.specs.Searches.{Work, stepped, entered, exhausted, Told, after, told, leaves_at, Met, alternatives, new_waiting, Place, out, at, pending, under_way, Search, Moves, makes_step, enters, runs_out, Reached, fresh, more}
-use Rattle.tree.specs.Laws.{Here, Complete, Covering, Account}
+use Rattle.tree.specs.Walks.{Path, Standing, branch, choice, leaf, Machine, Stops, Walks, opened, onward, taken}
+use Rattle.tree.specs.Searches.{Work, stepped, entered, exhausted, Told, told, leaves_at, alternatives, new_waiting, Place, out, at, pending, under_way, Search, Moves, makes_step, enters, runs_out, Reached, fresh, more}
+use Rattle.tree.specs.Laws.{Here, Complete, Account}
 pub use Rattle.tree.specs.Held.{unended_steps, steps_under_way, Held}
 use Rattle.tree.proofs.Counts.{delta, times, times_append, times_map_shuffled, children}
 use Rattle.tree.proofs.Tallies.{children_at, Tally, tally_fresh, tally_step, tally_enter, ended_steps}

@@ -1,13 +1,12 @@
 -- The tally at the opening, and how each unit keeps it.
-use Rattle.std.proofs.Common.{◌≡◌, ℕ, zero, suc, ◌+◌, ◌<◌, ◌≤◌, ◌⊎◌, List, [], ◌∷◌, ◌++◌, map, sum_by, sym, refl, ap, ◌∙◌, subst, inl, inr, ⊎_elim, arith}
-use Rattle.std.specs.List.{ContainsAt as Has, flat_map, AllByRecursion as All}
+use Rattle.std.proofs.Common.{◌≡◌, ℕ, ◌+◌, List, [], ◌∷◌, ◌++◌, refl, ap, ◌∙◌, arith}
 use Rattle.std.proofs.lemmas.List.Sums.{sum_by_push}
 use Rattle.std.proofs.ByRecursion.{All-push}
 use Rattle.std.proofs.lemmas.List.{flat_map_more, map_push, append-nil}
-use Rattle.tree.specs.Walks.{Path, Standing, branch, choice, leaf, Machine, Stops, Walks, opened, onward, taken, Ends, Edge}
+use Rattle.tree.specs.Walks.{Path, Standing, branch, choice, leaf, Machine, Stops, Walks}
 use Rattle.tree.specs.Searches.{leaves_at, pending}
 pub use Rattle.tree.specs.Held.{EndedEdge, Walked, children_at, all_children, paths, leaves_of, steps_of, Tally, ended_steps}
-use Rattle.tree.proofs.Counts.{delta, times, times_append, children}
+use Rattle.tree.proofs.Counts.{delta, times, times_append}
 
 module _ {S E : Type 0} (M : Machine S E) where
   -- before the opening is looked at: the root is under way

@@ -1,6 +1,6 @@
 -- When nothing waits and nothing is under way, every end was met exactly once.
-use Rattle.std.proofs.Common.{◌≡◌, ℕ, zero, suc, ◌+◌, ◌<◌, ◌≤◌, ◌⊎◌, List, [], ◌∷◌, ◌++◌, map, sum_by, sym, refl, ap, ◌∙◌, subst, inl, inr, ⊎_elim, arith}
-use Rattle.std.specs.List.{ContainsAt as Has, flat_map, AllByRecursion as All}
+use Rattle.std.proofs.Common.{◌≡◌, ℕ, ◌+◌, ◌<◌, ◌≤◌, ◌⊎◌, List, [], ◌∷◌, ◌++◌, map, sum_by, sym, refl, ap, ◌∙◌, subst, inl, inr, arith}
+use Rattle.std.specs.List.{ContainsAt as Has, AllByRecursion as All}
 use Rattle.std.proofs.lemmas.List.Sums.{sum_by-cons}
 use Rattle.std.proofs.ByRecursion.{all-has, All-append, has_append_left, has_append_right}
 use Rattle.std.proofs.lemmas.List.{map-append, append-nil, append_assoc}
@@ -9,7 +9,7 @@ use Rattle.tree.specs.Walks.{Path, Standing, branch, choice, leaf, Machine, Stop
 use Rattle.tree.specs.Searches.{leaves_at}
 use Rattle.tree.specs.Laws.{Once, Complete}
 use Rattle.tree.proofs.Fronts.{one_edge}
-use Rattle.tree.proofs.Counts.{delta, delta_same, delta_none, delta_cases, times, times_append, children, children_nil, children_push, children_has, push_nil, has_here, has_there, has_nil, has_cases, has_found, has_counts}
+use Rattle.tree.proofs.Counts.{delta, delta_same, delta_none, times, times_append, children, children_nil, children_push, children_has, push_nil, has_here, has_there, has_nil, has_cases, has_found}
 use Rattle.tree.proofs.Tallies.{EndedEdge, Walked, children_at, all_children, paths, leaves_of, steps_of, Tally}
 
 -- a list in which no path counts twice has none twice

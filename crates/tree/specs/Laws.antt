@@ -1,8 +1,8 @@
 -- What holds of every machine and every search of it.
-use Rattle.std.specs.Prelude.{◌≡◌, ℕ, zero, suc, ◌+◌, Bool, true, false, List, [], ◌∷◌, ◌++◌, map, sum_by, ◌≢◌}
+use Rattle.std.specs.Prelude.{◌≡◌, ℕ, true, false, List, [], ◌∷◌, ◌++◌, map, sum_by, ◌≢◌}
 use Rattle.std.specs.List.{ContainsAt as Has}
 use Rattle.std.specs.List.Sorted.{IsPermutation}
-use Rattle.tree.specs.Walks.{Path, Standing, branch, choice, leaf, Machine, Stops, Walks, Ends, Edge}
+use Rattle.tree.specs.Walks.{Path, Standing, choice, Machine, Stops, Walks, Ends, Edge}
 use Rattle.tree.specs.Searches.{Work, Told, told, Met, Place, out, at, under_way, Search, Moves, Reached}
 
 -- no element stands twice in the list

@@ -1,6 +1,6 @@
 -- A small machine: a step to a choice of two, a step to the end 20 below the first, and two to the end 30 below the second.
-use Rattle.std.specs.Prelude.{ℕ, zero, suc, List, [], ◌∷◌}
-use Rattle.tree.specs.Walks.{Path, Standing, branch, choice, leaf, Machine}
+use Rattle.std.specs.Prelude.{ℕ, zero, suc, [], ◌∷◌}
+use Rattle.tree.specs.Walks.{Standing, branch, choice, leaf, Machine}
 use Rattle.tree.specs.Laws.{Complete}
 
 -- its states

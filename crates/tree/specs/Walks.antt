@@ -1,5 +1,5 @@
 -- A machine that makes steps and comes to choices and ends, and the straight walk, which follows a path and never turns back.
-use Rattle.std.specs.Prelude.{◌≡◌, ℕ, zero, suc, ◌+◌, ◌≤◌, List, [], ◌∷◌, ◌++◌}
+use Rattle.std.specs.Prelude.{◌≡◌, ℕ, ◌+◌, ◌≤◌, List, [], ◌∷◌, ◌++◌}
 
 -- a path: the numbers of the alternatives taken, from the start on, counted from 1
 abbrev pub Path : Type 0

@@ -1,5 +1,5 @@
 -- The longest mark at the front of three bytes, and how many it takes. Assumes nothing.
-use Rattle.std.specs.Prelude.{ℕ, Bool, cond, ◌&&◌, Some, None, Option, ◌==◌}
+use Rattle.std.specs.Prelude.{ℕ, cond, ◌&&◌, Some, None, Option, ◌==◌}
 use Rattle.words.specs.declared.marks.Mark.{Mark}
 use Rattle.words.specs.declared.marks.Mark.TheVariants.{At, Comma, Dot, Semicolon, Bar, Backslash, Open, Close, Plus, Minus, Colon, Hash, Ask, Simplify, Propagate, Less, AtMost, Equal, AtLeast, Greater, Different}
 

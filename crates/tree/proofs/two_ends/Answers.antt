@@ -1,8 +1,6 @@
 -- A search of the small machine, unit by unit, that enters the first alternative first.
-use Rattle.std.proofs.Common.{◌≡◌, ℕ, List, [], ◌∷◌, ◌++◌, refl, arith}
-use Rattle.std.specs.List.Sorted.{IsPermutation}
-use Rattle.std.proofs.lemmas.List.Sorted.{IsPermutation-refl, IsPermutation-swap}
-use Rattle.tree.specs.Walks.{Path, Standing, branch, choice, leaf}
+use Rattle.std.proofs.Common.{ℕ, List, [], ◌∷◌, refl}
+use Rattle.std.proofs.lemmas.List.Sorted.{IsPermutation-refl}
 use Rattle.tree.specs.Searches.{Work, stepped, entered, exhausted, Search, out, Reached, fresh, more, makes_step, enters, runs_out}
 use Rattle.tree.specs.Small.{Spot, small, left, right}
 use Rattle.tree.proofs.Searched.{account}

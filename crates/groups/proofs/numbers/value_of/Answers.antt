@@ -1,4 +1,4 @@
-use Rattle.std.proofs.Common.{refl, arith}
+use Rattle.std.proofs.Common.{arith}
 use Rattle.groups.proofs.Writing.{scale_below, group_below, summed_more, summed_all}
 use Rattle.groups.proofs.numbers.value_of.Goals as goal
 

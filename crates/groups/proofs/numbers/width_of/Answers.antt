@@ -1,5 +1,4 @@
 use Rattle.std.proofs.Common.{length, ap, arith}
-use Rattle.groups.specs.Groups.{groups}
 use Rattle.groups.proofs.Shapes.{groups_high, groups_low, length_groups, length_formed, formed_groups}
 use Rattle.groups.proofs.numbers.width_of.Goals as goal
 

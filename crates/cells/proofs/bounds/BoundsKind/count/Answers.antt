@@ -1,4 +1,4 @@
-use Rattle.std.proofs.Common.{arith, rules}
+use Rattle.std.proofs.Common.{arith}
 use borrow.Author.Differences.{ints}
 use Rattle.cells.specs.BoundsLaws.{counted_by}
 use Rattle.cells.proofs.bounds.BoundsKind.count.Goals as goal

@@ -5,4 +5,4 @@ use Rattle.state.proofs.stack.Stack.pop.Goals as goal
 
 pub returns : goal.returns
 unfolding entries
-returns c = popped entry _ _ _ _ c.pop.ensures.items c.pop.ensures.test c.args.self.now.list.ok.0
+returns c = popped entry _ _ _ _ c.pop.ensures.items c.pop.ensures.variant.1 c.args.self.now.list.ok.0

@@ -21,7 +21,7 @@ invariant_of-self c =
     let e = c.push_reserved.ensures in
     let room : 128 ≤ vec_capacity c.push_reserved.new.self = omega (arith, s.room, e.capacity) in
     let few : vec_len c.push_reserved.new.self ≤ 128 = omega (arith, e.len, c.len.ensures, c.if-len-ge-MOST_FACTS.false) in
-    (room, (few, (pushed_rising s.next (vec_items s.list) (vec_items c.push_reserved.new.self) _ e.items refl s.rising, tt)))
+    record { room = room; few = few; rising = pushed_rising s.next (vec_items s.list) (vec_items c.push_reserved.new.self) _ e.items refl s.rising }
 
 pub returns : goal.returns
 returns c =

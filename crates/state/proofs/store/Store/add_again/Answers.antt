@@ -13,7 +13,7 @@ invariant_of-self c =
     let e = c.push_reserved.ensures in
     let room : 128 ≤ vec_capacity c.push_reserved.new.self = omega (arith, s.room, e.capacity) in
     let few : vec_len c.push_reserved.new.self ≤ 128 = omega (arith, e.len, c.len.ensures, c.if-len-lt-MOST_FACTS.true) in
-    (room, (few, (pushed_rising s.next (vec_items s.list) (vec_items c.push_reserved.new.self) c.args.fact e.items c.if-fact-self.true s.rising, tt)))
+    record { room = room; few = few; rising = pushed_rising s.next (vec_items s.list) (vec_items c.push_reserved.new.self) c.args.fact e.items c.if-fact-self.true s.rising }
 
 pub returns-then-len-lt-MOST_FACTS : goal.returns-then-len-lt-MOST_FACTS
 returns-then-len-lt-MOST_FACTS c =

@@ -47,7 +47,7 @@ invariant_of-self c =
     let room : 128 ≤ vec_capacity c.insert.new.self = omega (arith, s.room, e.capacity) in
     let few : vec_len c.insert.new.self ≤ 128 = omega (arith, e.len, ap (λ b. cond b (vec_len s.list + 1) (vec_len s.list)) (e.succeeds free), c.if-len-ge-MOST_FACTS.false, c.len.ensures) in
     let w = back_facts f (vec_items s.list) (vec_items c.insert.new.self) c.place_of-at.result c.place_of-at.ensures (e.items ∙ in') in
-    (room, (few, (back_rising f s.next (vec_items s.list) (vec_items c.insert.new.self) w (omega (arith, c.if-fact-eq0.false)) c.if-fact-self.false absent s.rising, tt)))
+    record { room = room; few = few; rising = back_rising f s.next (vec_items s.list) (vec_items c.insert.new.self) w (omega (arith, c.if-fact-eq0.false)) c.if-fact-self.false absent s.rising }
 
 pub returns : goal.returns
 returns c =

@@ -9,7 +9,7 @@ invariant_of-self c =
     let e = c.remove.ensures in
     let room : 128 ≤ vec_capacity c.remove.new.self = omega (arith, s.room, e.capacity) in
     let few : vec_len c.remove.new.self ≤ 128 = omega (arith, e.len, s.few) in
-    (room, (few, (taken_rising s.next c.place_of-at.result (vec_items s.list) (vec_items c.remove.new.self) e.by_index.2 s.rising, tt)))
+    record { room = room; few = few; rising = taken_rising s.next c.place_of-at.result (vec_items s.list) (vec_items c.remove.new.self) e.by_index.2 s.rising }
 
 pub returns-then-index-identifier : goal.returns-then-index-identifier
 returns-then-index-identifier c =

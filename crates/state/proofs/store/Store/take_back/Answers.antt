@@ -10,7 +10,7 @@ invariant_of-self c =
     let e = c.in-Some.ensures in
     let room : 128 ≤ vec_capacity c.pop.new.self = omega (arith, s.room, e.capacity) in
     let few : vec_len c.pop.new.self ≤ 128 = omega (arith, s.few, e.cases) in
-    (room, (few, (popped_rising s.next (vec_items s.list) (vec_items c.pop.new.self) c.in-Some.last e.items s.rising, tt)))
+    record { room = room; few = few; rising = popped_rising s.next (vec_items s.list) (vec_items c.pop.new.self) c.in-Some.last e.items s.rising }
 
 pub returns-in-Some : goal.returns-in-Some
 returns-in-Some c =
