@@ -1,5 +1,5 @@
 -- Each word takes a byte at least, so no word is missed. Assumes nothing.
-use Rattle.std.proofs.Common.{◌≡◌, ℕ, zero, suc, ◌+◌, ◌<◌, ◌≤◌, Bool, true, false, cond, ◌&&◌, eqb, ltb, leb, List, [], ◌∷◌, length, get_or, take, drop, Some, None, Option, sym, refl, ap, arith, lit<}
+use Rattle.std.proofs.Common.{◌≡◌, ℕ, zero, suc, ◌+◌, ◌<◌, ◌≤◌, Bool, true, false, cond, ◌&&◌, eqb, ltb, leb, List, [], length, get_or, take, drop, Some, None, Option, sym, refl, ap, arith, lit<}
 use Rattle.std.specs.List.{prefix_len}
 use Rattle.std.proofs.lemmas.List.Sums.{prefix_len-drop_yes}
 use Rattle.std.proofs.lemmas.Bool.{ltb-true, le-ltb, and_parts, cond_both, cond-false}
@@ -10,9 +10,9 @@ use Rattle.words.specs.declared.marks.Mark.{Mark}
 use Rattle.words.specs.declared.marks.Mark.TheVariants as mark
 use Rattle.words.specs.declared.sorts.Sort.{Sort}
 use Rattle.words.specs.declared.sorts.Sort.TheVariants as sorts
-use Rattle.words.specs.Lex.{Lexeme, name, variable, number, Read, end, word, stray, long, value, fits, read_name, number_part, read_number, signed, read_mark, by_sort, read_from, word_at}
+use Rattle.words.specs.Lex.{Lexeme, name, variable, number, Read, end, word, stray, long, value, fits, read_name, number_part, signed, by_sort, word_at}
 use Rattle.lexed.specs.declared.text.Ending.TheVariants.{Clean}
-use Rattle.lexed.specs.Texts.{Cut, raw_word, before, met, words_from, turns, WordByWord}
+use Rattle.lexed.specs.Texts.{raw_word, before, met, words_from, turns, WordByWord}
 
 -- a word ends behind a place
 abbrev Moves : ℕ → Read → Type 0

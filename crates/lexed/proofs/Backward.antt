@@ -1,5 +1,5 @@
 -- The backward pass that marks words: what is behind an index is marked, what is before it is as it was. Assumes nothing.
-use Rattle.std.proofs.Common.{◌≡◌, ℕ, zero, suc, ◌+◌, ◌-◌, ◌<◌, ◌≤◌, Bool, true, false, List, [], ◌∷◌, map, length, get_or, take, drop, set, sym, refl, ap, ◌∙◌, subst, arith, drop-cons}
+use Rattle.std.proofs.Common.{◌≡◌, ℕ, zero, suc, ◌+◌, ◌-◌, ◌<◌, ◌≤◌, Bool, false, List, [], ◌∷◌, length, get_or, take, drop, set, sym, refl, ap, ◌∙◌, arith, drop-cons}
 use Rattle.std.proofs.lemmas.List.{length-map, drop_all, drop-set, take-set, take-take, get_or-take, take-map, get_or-map, map-set, set-get_or}
 use Rattle.syntax.specs.Syntax.{W, name, var, num, weight, sign, kind, ahead}
 use Rattle.syntax.specs.Marks.{colon}

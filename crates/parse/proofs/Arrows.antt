@@ -1,18 +1,18 @@
 -- Arrows and rules, from their parts. Assumes nothing.
-use Rattle.std.proofs.Common.{◌≡◌, ℕ, suc, ◌+◌, ◌-◌, List, [], ◌∷◌, ◌++◌, map, length, drop, IsErrAnd, Result, sym, refl, ap, ◌∙◌, subst}
+use Rattle.std.proofs.Common.{◌≡◌, ℕ, suc, List, [], ◌++◌, map, length, IsErrAnd, Result, sym, refl, ap, ◌∙◌, subst}
 use Rattle.std.proofs.lemmas.Result.{err_from_is_err_and}
 use Rattle.std.proofs.lemmas.List.{length-map}
-use Rattle.syntax.specs.Syntax.{W, Out, ok}
+use Rattle.syntax.specs.Syntax.{W, Out}
 use Rattle.syntax.specs.Parts.{Some, last, more}
 use Rattle.syntax.specs.Tree as tree
-use Rattle.syntax.specs.Grammar.{Scope, binding, bound, closed, seal, next_all, next_head, behind, scope_of, count}
+use Rattle.syntax.specs.Grammar.{binding, bound, seal, next_all, next_head, behind, scope_of, count}
 use Rattle.syntax.specs.Readers.{read_arrow}
 use Rattle.parse.specs.declared.flaw.Flaw.{Flaw}
 use Rattle.parse.specs.declared.few.Few.{Few}
 use Rattle.parse.specs.declared.tree.Mention.{Mention as CodeMention}
 use Rattle.parse.specs.declared.tree.Arrow.{Arrow as CodeArrow}
 use Rattle.parse.specs.Fews.{few_items}
-use Rattle.parse.specs.Model.{Mention, mention, alternative}
+use Rattle.parse.specs.Model.{mention}
 use Rattle.parse.specs.Flat.{head_mentions, head_mention, few_mentions}
 use Rattle.parse.specs.Flaws.{listed, Faulted}
 use Rattle.parse.specs.Scopes.{scope_names}

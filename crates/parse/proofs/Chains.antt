@@ -1,8 +1,8 @@
 -- Parts in a row, over any readers: all are read, or the first that is not decides. Assumes nothing.
-use Rattle.std.proofs.Common.{◌≡◌, ℕ, Bool, true, false, cond, ◌⊎◌, List, [], ◌∷◌, sym, refl, ap, ◌∙◌, subst, inl, inr}
-use Rattle.syntax.specs.Syntax.{W, kind, sign, ahead, Out, ok, barred, flawed, Reader, after, mapped, both, via, fork, nothing, only_end}
+use Rattle.std.proofs.Common.{◌≡◌, ℕ, true, false, List, [], ◌∷◌}
+use Rattle.syntax.specs.Syntax.{W, kind, sign, ahead, ok, barred, Reader, both, via, fork, nothing, only_end}
 use Rattle.syntax.specs.Parts.{Some, mark}
-use Rattle.syntax.specs.Tree.{Left, Right, Relation, Telling, Comparison, compared, Fact, bare, applied, Argument, Item, added, told, failing, Content, nil, items, Alternative, plainly, weighted, Guard, none, guarded, Arrow, propagating, simplifying, simpagating, Label, Rule, rule}
+use Rattle.syntax.specs.Tree.{Left, Right, Relation, Telling, Comparison, compared, Fact, bare, applied, Argument, Item, added, told, Content, nil, items, Alternative, plainly, weighted, Guard, none, guarded, Arrow, propagating, simplifying, simpagating, Label, Rule, rule}
 use Rattle.syntax.specs.Readers.{name_kind, weight_kind, comparison_of, fact_of, item_of, content_of, alternative_of, guard_of, arrow_of, rule_of, goal_of, on_mark, behind_mark}
 use Rattle.syntax.specs.Marks.{open_mark, close_mark, fail_word, true_word, colon, bar, backslash, at_mark, dot, ask}
 use Rattle.syntax.specs.Grammar.{Scope}

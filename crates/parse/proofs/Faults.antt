@@ -1,9 +1,8 @@
 -- A part's fault is the whole's, and marks tell which part comes. Assumes nothing.
-use Rattle.std.proofs.Common.{◌≡◌, ℕ, ◌+◌, Bool, true, false, cond, ◌⊎◌, List, [], ◌∷◌, drop, IsErrAnd, Ok, Err, Result, sym, refl, ap, ◌∙◌, subst, inl, inr}
+use Rattle.std.proofs.Common.{◌≡◌, ℕ, ◌+◌, true, false, List, [], ◌∷◌, drop, IsErrAnd, Result, sym, ap, ◌∙◌, subst, inl, inr}
 use Rattle.std.proofs.lemmas.Result.{err_from_is_err_and}
 use Rattle.std.proofs.lemmas.Bool.{cond-true, cond-false}
-use Rattle.syntax.specs.Syntax.{W, kind, sign, ahead, fork, Out, ok, barred, flawed, after, mapped, Reader}
-use Rattle.syntax.specs.Parts.{mark}
+use Rattle.syntax.specs.Syntax.{W, kind, sign, ahead, fork, Out, barred, flawed, after, mapped, Reader}
 use Rattle.syntax.specs.Readers.{on_mark}
 use Rattle.parse.specs.declared.flaw.Flaw.{Flaw}
 use Rattle.parse.specs.declared.flaw.Flaw.TheVariants.{Barred, TooMany, Unbound, Reused, InGoal, Memory}

@@ -1,11 +1,11 @@
 -- Loops over parts of heads, in which variables join: what was read keeps its meaning as more join. Assumes nothing.
-use Rattle.std.proofs.Common.{◌≡◌, ℕ, zero, suc, ◌+◌, ◌<◌, ◌≤◌, Bool, true, false, cond, List, [], ◌∷◌, ◌++◌, map, drop, IsErrAnd, Ok, Err, Result, sym, refl, ap, ◌∙◌, subst, append_assoc}
+use Rattle.std.proofs.Common.{◌≡◌, ℕ, ◌+◌, ◌<◌, ◌≤◌, Bool, true, false, cond, List, [], ◌∷◌, ◌++◌, map, drop, IsErrAnd, Result, sym, refl, ap, ◌∙◌, subst, append_assoc}
 use Rattle.std.proofs.lemmas.List.{map_push}
 use Rattle.std.proofs.lemmas.Result.{err_from_is_err_and}
 use Rattle.syntax.specs.Syntax.{W, kind, sign, Out, ok, Reader, ahead}
 use Rattle.syntax.specs.Parts.{Some, last, more, mark, parts}
-use Rattle.syntax.specs.Grammar.{Scope, binding, bound, closed, among, joined, joins, next_left, next_all, next_head}
-use Rattle.syntax.specs.Tree.{Left, number, cell, variable, Fact, bare, applied}
+use Rattle.syntax.specs.Grammar.{Scope, binding, among, next_left, next_all, next_head}
+use Rattle.syntax.specs.Tree.{number, cell, variable, bare, applied}
 use Rattle.parse.specs.declared.flaw.Flaw.{Flaw}
 use Rattle.parse.specs.Flaws.{listed, Faulted}
 use Rattle.parse.specs.Scopes.{Grows, scope_names}

@@ -1,5 +1,5 @@
 -- Words by their places. Assumes nothing.
-use Rattle.std.proofs.Common.{◌≡◌, ℕ, ◌+◌, ◌<◌, ◌≤◌, true, false, List, [], ◌∷◌, map, length, get_or, drop, sym, refl, ap, ◌∙◌}
+use Rattle.std.proofs.Common.{◌≡◌, ℕ, ◌+◌, ◌<◌, ◌≤◌, true, List, [], ◌∷◌, map, length, get_or, drop, sym, refl, ap, ◌∙◌}
 use Rattle.std.proofs.lemmas.List.{drop-map, drop_more, drop_all, drop-drop}
 use Rattle.std.proofs.lemmas.Bool.{cond-true, false≢true}
 use Rattle.syntax.specs.Syntax.{W, kind, sign, mem, ahead, ok}

@@ -1,10 +1,10 @@
 -- The loop over the rules of a book. Assumes nothing.
-use Rattle.std.proofs.Common.{◌≡◌, ℕ, zero, suc, ◌+◌, ◌-◌, ◌<◌, ◌≤◌, true, false, List, [], ◌∷◌, ◌++◌, map, length, drop, IsErrAnd, Result, Vec, sym, refl, ap, ◌∙◌, subst, inl, inr, append_assoc, arith}
+use Rattle.std.proofs.Common.{◌≡◌, ℕ, zero, suc, ◌+◌, ◌-◌, ◌<◌, ◌≤◌, List, [], ◌∷◌, ◌++◌, map, length, drop, IsErrAnd, Result, Vec, sym, refl, ap, ◌∙◌, subst, inl, append_assoc, arith}
 use Rattle.std.proofs.lemmas.List.{map_push, length-map}
-use Rattle.syntax.specs.Syntax.{W, Out, ok, barred, flawed, Reader, after, mapped, over}
+use Rattle.syntax.specs.Syntax.{W, Out, ok, barred, flawed, after, mapped, over}
 use Rattle.syntax.specs.Parts.{many, list_of}
 use Rattle.syntax.specs.Tree as tree
-use Rattle.syntax.specs.Grammar.{next_rule, label_name}
+use Rattle.syntax.specs.Grammar.{next_rule}
 use Rattle.syntax.specs.Readers.{first_rule, read_rule}
 use Rattle.syntax.proofs.Steps.{then, many_step}
 use Rattle.parse.specs.declared.flaw.Flaw.{Flaw}

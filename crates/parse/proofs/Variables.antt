@@ -1,9 +1,9 @@
 -- Variables and rules' names, by the word ahead. Assumes nothing.
-use Rattle.std.proofs.Common.{◌≡◌, ℕ, zero, suc, ◌+◌, ◌<◌, ◌≤◌, Bool, true, false, cond, not, ◌||◌, eqb, ltb, leb, List, [], ◌∷◌, ◌++◌, length, Some, None, vec_items, vec_len, sym, refl, ap, ◌∙◌, subst, add-one, arith, Bor}
+use Rattle.std.proofs.Common.{◌≡◌, ℕ, suc, ◌<◌, ◌≤◌, Bool, true, false, cond, not, ◌||◌, eqb, ltb, leb, List, [], ◌∷◌, ◌++◌, length, Some, vec_len, sym, refl, ap, ◌∙◌, subst, arith, Bor}
 use Rattle.std.proofs.lemmas.Bool.{false≢true, cond-true, cond-false, lt-ltb, le-ltb, ltb-true, ltb-false, le-leb, lt-leb}
 use Rattle.std.proofs.lemmas.List.{length-map}
-use Rattle.syntax.specs.Syntax.{W, name, var, sign, kind, mem, Note, fine, flaw, noted, Out, ok, barred, flawed}
-use Rattle.syntax.specs.Grammar.{Scope, binding, bound, closed, var_note, among, joined, joins, same_name, spelling, label_note, label_name, true_name, fail_name}
+use Rattle.syntax.specs.Syntax.{W, name, var, sign, kind, mem, fine, flaw, noted, ok}
+use Rattle.syntax.specs.Grammar.{Scope, binding, bound, var_note, among, joined, same_name, label_name, true_name, fail_name}
 use Rattle.syntax.specs.Readers.{read_variable, read_label, first_rule, label_value}
 use Rattle.syntax.specs.Tree.{Label, named, named_true, named_fail}
 use Rattle.syntax.specs.Marks.{true_word}
@@ -15,7 +15,7 @@ use Rattle.parse.specs.declared.token.Token.{Token}
 use Rattle.parse.specs.Tokens.{token_word, lexeme_word, sign_code}
 use Rattle.parse.specs.declared.scope.Names.{Names}
 use Rattle.parse.specs.declared.scope.Scope.{Scope as Scope'}
-use Rattle.parse.specs.declared.scope.Scope.TheVariants.{Rule, Goal}
+use Rattle.parse.specs.declared.scope.Scope.TheVariants.{Rule}
 use Rattle.parse.specs.Scopes.{variables, scope, scope_variables, Labels}
 use Rattle.parse.specs.Flat.{index_of}
 use Rattle.parse.specs.Flaws.{flawed_at}

@@ -1,5 +1,5 @@
 -- Trees of the grammar as the code holds them: variables by their number in the rule, signed numbers as whole numbers. Assumes nothing.
-use Rattle.std.specs.Prelude.{◌≡◌, ℕ, suc, Bool, true, false, cond, List, [], ◌∷◌, map, ℤ, pos, neg_ℤ, Some, None, vec_items, Option, Vec}
+use Rattle.std.specs.Prelude.{◌≡◌, ℕ, suc, cond, List, [], ◌∷◌, map, ℤ, pos, neg_ℤ, Some, None, vec_items, Option, Vec}
 use Rattle.words.specs.declared.name.Name.{Name}
 use Rattle.words.specs.Names.{name_bytes}
 use Rattle.cells.specs.declared.relations.Relation.{Relation}

@@ -1,5 +1,5 @@
 -- What the answers of the code's readers mean: how they agree with the grammar's reader. Assumes nothing.
-use Rattle.std.specs.Prelude.{◌≡◌, ℕ, ◌+◌, true, false, List, [], ◌∷◌, map, drop, Ok, Err, Option, Result}
+use Rattle.std.specs.Prelude.{◌≡◌, ℕ, true, false, List, [], ◌∷◌, map, drop, Ok, Err, Option, Result}
 use Rattle.std.specs.declared.option.Option.TheVariants as option
 use Rattle.words.specs.declared.name.Name.{Name}
 use Rattle.words.specs.Names.{name_bytes}

@@ -11,7 +11,6 @@ use Rattle.parse.specs.declared.tree.Item.{Item as CodeItem}
 use Rattle.parse.specs.declared.tree.Item.TheVariants as code-item
 use Rattle.parse.specs.declared.tree.Alternative.{Alternative as CodeAlternative}
 use Rattle.words.specs.declared.count.Count.{Count}
-use Rattle.parse.specs.declared.number.Number.{Number}
 use Rattle.parse.specs.declared.number.Cell.{Cell}
 use Rattle.parse.specs.declared.number.Variable.{Variable}
 use Rattle.parse.specs.declared.number.Weight.{Weight}

@@ -1,5 +1,5 @@
 -- Rules as the code holds them, and as the grammar's trees come to. Assumes nothing.
-use Rattle.std.specs.Prelude.{◌≡◌, ℕ, ◌-◌, List, [], ◌∷◌, map, length, drop, Ok, Err, vec_items, Result}
+use Rattle.std.specs.Prelude.{◌≡◌, ℕ, ◌-◌, List, [], ◌∷◌, map, drop, Ok, Err, vec_items, Result}
 use Rattle.words.specs.Names.{name_bytes}
 use Rattle.syntax.specs.Syntax.{W, kind, sign, Out, ok, Reader, both, fork, via}
 use Rattle.syntax.specs.Parts.{Some}
@@ -12,8 +12,7 @@ use Rattle.parse.specs.declared.few.Few.{Few}
 use Rattle.parse.specs.declared.tree.Mention.{Mention as CodeMention}
 use Rattle.parse.specs.declared.tree.Arrow.{Arrow as CodeArrow}
 use Rattle.parse.specs.declared.tree.Rule.{Rule as CodeRule}
-use Rattle.parse.specs.Fews.{few_items}
-use Rattle.parse.specs.Model.{Mention, mention, Asking, asking, Alternative, alternative}
+use Rattle.parse.specs.Model.{Mention, Asking, asking, Alternative, alternative}
 use Rattle.parse.specs.Flat.{head_mentions, few_mentions, guard_of, alternative_of}
 use Rattle.parse.specs.Flaws.{listed, Faulted}
 use Rattle.parse.specs.Scopes.{variables, scope_names}

@@ -1,4 +1,4 @@
-use Rattle.std.proofs.Common.{[], drop, refl}
+use Rattle.std.proofs.Common.{[], drop}
 use Rattle.syntax.specs.Grammar.{same}
 use Rattle.syntax.specs.Tree.{bare, applied}
 use Rattle.syntax.specs.Readers.{read_name, read_argument, read_arguments}

@@ -1,4 +1,4 @@
-use Rattle.std.proofs.Common.{drop, sym, ap}
+use Rattle.std.proofs.Common.{drop, sym}
 use Rattle.parse.specs.Tokens.{words}
 use Rattle.parse.specs.Scopes.{scope, scope_variables}
 use Rattle.parse.proofs.Faults.{exit}

@@ -1,4 +1,4 @@
-use Rattle.std.proofs.Common.{◌≡◌, [], ◌∷◌, ◌++◌, map, drop, vec_items, sym, refl, ap, ◌∙◌}
+use Rattle.std.proofs.Common.{map, vec_items, sym, refl, ap}
 use Rattle.syntax.specs.Grammar.{same}
 use Rattle.syntax.specs.Marks.{semicolon}
 use Rattle.syntax.specs.Readers.{first_alternative, read_alternative, read_body}

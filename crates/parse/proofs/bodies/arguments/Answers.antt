@@ -1,5 +1,4 @@
-use Rattle.std.proofs.Common.{◌≡◌, ◌+◌, List, [], ◌∷◌, ◌++◌, map, drop, sym, refl, ap, ◌∙◌}
-use Rattle.std.proofs.lemmas.List.{map_push}
+use Rattle.std.proofs.Common.{[], map, refl}
 use Rattle.syntax.specs.Grammar.{same}
 use Rattle.syntax.specs.Marks.{comma}
 use Rattle.syntax.specs.Readers.{read_argument, read_arguments, first_left}

@@ -1,4 +1,4 @@
-use Rattle.std.proofs.Common.{◌≡◌, [], ◌∷◌, ◌++◌, map, drop, vec_items, sym, refl, ap, ◌∙◌}
+use Rattle.std.proofs.Common.{map, vec_items, sym, refl, ap}
 use Rattle.syntax.specs.Grammar.{same}
 use Rattle.syntax.specs.Marks.{comma}
 use Rattle.syntax.specs.Readers.{first_left, read_asking, read_askings}

@@ -1,9 +1,8 @@
-use Rattle.std.proofs.Common.{◌≡◌, ℕ, ◌<◌, ◌≤◌, List, [], ◌∷◌, ◌++◌, map, drop, sym, refl, ap, ◌∙◌, arith}
-use Rattle.syntax.specs.Grammar.{binding, next_head, next_all}
+use Rattle.std.proofs.Common.{◌<◌, [], ◌∷◌, refl, arith}
+use Rattle.syntax.specs.Grammar.{next_head, next_all}
 use Rattle.syntax.specs.Marks.{comma}
 use Rattle.syntax.specs.Readers.{name_kind, read_head, read_heads}
 use Rattle.parse.specs.Tokens.{words}
-use Rattle.parse.specs.Fews.{few_items}
 use Rattle.parse.specs.Model.{mention}
 use Rattle.parse.specs.Flat.{head_mention, few_mentions, head_mentions}
 use Rattle.parse.specs.Scopes.{variables}

@@ -1,6 +1,4 @@
-use Rattle.std.proofs.Common.{◌≡◌, drop, sym, refl, ap, ◌∙◌}
-use Rattle.parse.specs.Tokens.{words}
-use Rattle.parse.specs.Scopes.{variables}
+use Rattle.std.proofs.Common.{sym, refl, ap}
 use Rattle.syntax.specs.Tree as tree
 use Rattle.parse.specs.Model as model
 use Rattle.parse.proofs.heads.pattern.Goals as goal

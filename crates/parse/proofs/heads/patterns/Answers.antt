@@ -1,9 +1,8 @@
-use Rattle.std.proofs.Common.{◌≡◌, ℕ, ◌<◌, ◌≤◌, List, [], ◌∷◌, ◌++◌, map, drop, sym, refl, ap, ◌∙◌, arith}
-use Rattle.syntax.specs.Grammar.{binding, next_left, next_all}
+use Rattle.std.proofs.Common.{◌<◌, [], refl}
+use Rattle.syntax.specs.Grammar.{next_left, next_all}
 use Rattle.syntax.specs.Marks.{comma}
 use Rattle.syntax.specs.Readers.{first_left, read_left, read_arguments}
 use Rattle.parse.specs.Tokens.{words}
-use Rattle.parse.specs.Fews.{few_items}
 use Rattle.parse.specs.Model.{term}
 use Rattle.parse.specs.Flat.{left_term, few_terms, pattern_terms}
 use Rattle.parse.specs.Scopes.{variables}

@@ -1,8 +1,8 @@
-use Rattle.std.proofs.Common.{◌≡◌, ◌-◌, [], ◌∷◌, ◌++◌, length, drop, sym, refl, ap, ◌∙◌}
+use Rattle.std.proofs.Common.{◌-◌, [], ◌∷◌, length, drop, sym, refl, ap, ◌∙◌}
 use Rattle.syntax.specs.Syntax.{kind, sign}
 use Rattle.syntax.specs.Tree as tree
 use Rattle.syntax.specs.Marks.{simplify, simplify_guarded, propagate, propagate_guarded}
-use Rattle.syntax.specs.Grammar.{binding, bound, seal, next_all, next_head}
+use Rattle.syntax.specs.Grammar.{binding, seal, next_all, next_head}
 use Rattle.syntax.specs.Readers.{read_heads, read_guard}
 use Rattle.parse.specs.Tokens.{words}
 use Rattle.parse.specs.Fews.{few_items}

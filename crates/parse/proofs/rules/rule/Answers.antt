@@ -1,4 +1,4 @@
-use Rattle.std.proofs.Common.{◌≡◌, [], ◌∷◌, map, drop, sym, refl, ap, ◌∙◌}
+use Rattle.std.proofs.Common.{[], drop, sym, ap, ◌∙◌}
 use Rattle.syntax.specs.Tree as tree
 use Rattle.syntax.specs.Grammar.{binding, behind}
 use Rattle.syntax.specs.Readers.{read_label, read_heads, read_arrow, read_body}

@@ -1,4 +1,4 @@
-use Rattle.std.proofs.Common.{sym, ap, ◌∙◌}
+use Rattle.std.proofs.Common.{ap}
 use Rattle.syntax.specs.Tree.{held, valued}
 use Rattle.parse.specs.Model as model
 use Rattle.parse.specs.Flat.{IsArgument}

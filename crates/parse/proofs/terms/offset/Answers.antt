@@ -1,5 +1,5 @@
-use Rattle.std.proofs.Common.{pos, neg_ℤ, Some, None, sym, ap, ◌∙◌}
-use Rattle.syntax.specs.Tree.{alone, raised, lowered}
+use Rattle.std.proofs.Common.{pos, neg_ℤ, Some, sym, ap, ◌∙◌}
+use Rattle.syntax.specs.Tree.{raised, lowered}
 use Rattle.parse.proofs.terms.offset.Goals as goal
 
 pub returns-in-Some : goal.returns-in-Some

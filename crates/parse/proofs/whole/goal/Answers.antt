@@ -1,5 +1,4 @@
-use Rattle.std.proofs.Common.{◌≡◌, [], ◌∷◌, drop, sym, refl, ap, ◌∙◌}
-use Rattle.syntax.specs.Syntax.{ok}
+use Rattle.std.proofs.Common.{drop, sym, ap, ◌∙◌}
 use Rattle.syntax.specs.Grammar.{closed}
 use Rattle.syntax.specs.Readers.{read_goal, read_content}
 use Rattle.parse.specs.Tokens.{words}

@@ -1,12 +1,11 @@
-use Rattle.std.proofs.Common.{◌≡◌, [], ◌∷◌, map, drop, vec_items, sym, refl, ap, ◌∙◌, subst}
+use Rattle.std.proofs.Common.{map, drop, vec_items, sym, refl, ap, ◌∙◌, subst}
 use Rattle.std.proofs.lemmas.List.{map_push}
 use Rattle.words.specs.Names.{name_bytes}
-use Rattle.syntax.specs.Syntax.{ok}
 use Rattle.syntax.specs.Readers.{read_book, read_rule}
 use Rattle.parse.specs.Tokens.{words}
 use Rattle.parse.specs.Flat.{spelled}
 use Rattle.parse.specs.Flaws.{Faulted}
-use Rattle.parse.specs.Rules.{rule_view, rule_model}
+use Rattle.parse.specs.Rules.{rule_view}
 use Rattle.parse.proofs.Places.{drop_end}
 use Rattle.parse.proofs.Loops.{vec_grown}
 use Rattle.parse.proofs.Rows.{collects_none, collects_end, collects_over, collects_fault, collects_next, some_word, exit_book, label_joins}

@@ -1,5 +1,5 @@
-use Rattle.std.proofs.Common.{◌<◌, length, ap, subst, arith, rules}
-use Rattle.parse.specs.Flat.{spelled, index_of}
+use Rattle.std.proofs.Common.{◌<◌, length, subst, rules}
+use Rattle.parse.specs.Flat.{spelled}
 use Rattle.parse.proofs.Variables.{below_six}
 use Rattle.parse.proofs.scope.Names.find.Goals as goal
 

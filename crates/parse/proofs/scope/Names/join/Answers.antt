@@ -1,4 +1,4 @@
-use Rattle.std.proofs.Common.{◌≡◌, vec_items, sym, ap, ◌∙◌, arith}
+use Rattle.std.proofs.Common.{vec_items, sym, ap, ◌∙◌, arith}
 use Rattle.words.specs.Names.{name_bytes}
 use Rattle.std.proofs.lemmas.List.{map_push}
 use Rattle.parse.specs.Flat.{spelled}
