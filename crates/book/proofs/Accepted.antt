@@ -1,8 +1,7 @@
 -- Texts are accepted exactly if they spell a book or goal. Assumes nothing.
-use Rattle.std.proofs.Common.{◌≡◌, ℕ, ◌≤◌, Bool, true, false, cond, leb, ◌↔◌, List, [], ◌∷◌, map, length, sym, refl, ap, ◌∙◌, subst}
+use Rattle.std.proofs.Common.{◌≡◌, ℕ, ◌≤◌, Bool, true, false, leb, List, [], ◌∷◌, map, length, sym, refl, ap, ◌∙◌, subst}
 use Rattle.std.proofs.lemmas.Bool.{cond-true, cond-false, le-leb, leb-true}
-use Rattle.syntax.specs.Syntax.{W, Said, plain, Fine, Reader, Out, ok, barred, flawed}
-use Rattle.syntax.specs.Exact.{Exact}
+use Rattle.syntax.specs.Syntax.{W, Said, Reader, Out, ok, barred, flawed}
 use Rattle.syntax.specs.Tree as tree
 use Rattle.syntax.specs.Grammar.{say_book, say_goal}
 use Rattle.syntax.specs.Readers.{read_book, read_goal}
@@ -20,7 +19,7 @@ use Rattle.lexed.proofs.Names.{unmarked}
 use Rattle.book.specs.Mentions.{in_rules, in_items}
 use Rattle.book.specs.Predicates.{Predicate, Listing, these, excess, listing, Unknowns, all_known, unknown_at, unknowns}
 use Rattle.book.specs.Reading.{Book, Verdict, accepted, refused, Refusal, judged, judged_text, whole_or, with_predicates, with_known, book_meaning, goal_meaning, book_of, goal_of}
-use Rattle.book.specs.Claims.{Spelled, IsBook, BooksAccepted, OneBook, IsGoal, GoalsAccepted, OneGoal}
+use Rattle.book.specs.Claims.{Spelled, BooksAccepted, OneBook, GoalsAccepted, OneGoal}
 
 -- telling verdicts apart
 abbrev Accepting : {X : Type 0} → Verdict X → Type 0

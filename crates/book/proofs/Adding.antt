@@ -2,7 +2,7 @@
 use Rattle.std.proofs.Common.{◌≡◌, ℕ, ◌+◌, ◌<◌, ◌≤◌, List, [], ◌∷◌, ◌++◌, map, length, get_or, take, sym, refl, ap, ◌∙◌, append_assoc}
 use Rattle.std.proofs.lemmas.List.{map_push, take_more, take_all}
 use Rattle.parse.specs.declared.few.Few.{Few}
-use Rattle.parse.specs.declared.few.Few.TheVariants.{Zero, One, Two, Three}
+use Rattle.parse.specs.declared.few.Few.TheVariants.{One, Two, Three}
 use Rattle.parse.specs.declared.tree.Mention.{Mention as Code}
 use Rattle.parse.specs.Model.{Mention, mention}
 use Rattle.parse.specs.Flat.{few_mentions}

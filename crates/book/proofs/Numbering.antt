@@ -1,8 +1,8 @@
 -- Predicates in a table. Assumes nothing.
-use Rattle.std.proofs.Common.{◌≡◌, ℕ, suc, ◌+◌, ◌<◌, ◌≤◌, Bool, true, false, cond, ◌&&◌, ◌||◌, eqb, ltb, List, [], ◌∷◌, ◌++◌, map, length, get_or, take, drop, IsErrAnd, vec_items, vec_len, Decides, Result, sym, refl, ap, ◌∙◌, subst, arith}
+use Rattle.std.proofs.Common.{◌≡◌, ℕ, suc, ◌+◌, ◌<◌, ◌≤◌, Bool, true, false, cond, ◌||◌, ltb, List, [], ◌∷◌, ◌++◌, map, length, get_or, drop, IsErrAnd, vec_len, Decides, Result, sym, refl, ap, ◌∙◌, subst, arith}
 use Rattle.std.proofs.lemmas.Result.{err_from_is_err_and}
 use Rattle.std.proofs.lemmas.Bool.{cond-true, cond-false, false≢true, lt-ltb, le-ltb}
-use Rattle.std.proofs.lemmas.List.{drop_more, drop_all, length-map, map_push}
+use Rattle.std.proofs.lemmas.List.{drop_more, drop_all, length-map}
 use Rattle.syntax.specs.Grammar.{same_name}
 use Rattle.parse.specs.Model.{Mention, mention, term}
 use Rattle.parse.specs.Fews.{few_items}
@@ -13,7 +13,7 @@ use Rattle.book.specs.declared.predicate.Predicates.{Predicates}
 use Rattle.book.specs.declared.faults.BookFault.{BookFault}
 use Rattle.book.specs.declared.faults.BookFault.TheVariants.{Grammar, Unbound, Reused, InGoal, Unknown, Memory}
 use Rattle.book.specs.declared.faults.GrammarFault.TheVariants.{Letter, Barred, TooMany}
-use Rattle.book.specs.Predicates.{Predicate, predicates_agree, has, number_of, predicate_of, coded, predicates, Listing, these, excess, noted, on_these, listing, Excess, Listed, Unknowns, all_known, unknown_at, unknowns}
+use Rattle.book.specs.Predicates.{Predicate, predicates_agree, has, number_of, predicate_of, coded, predicates, Listing, these, excess, noted, on_these, listing, Excess, Listed, all_known, unknown_at, unknowns}
 
 -- a test that decides whether two names are the same
 pub decided : (r : Bool) (a b : List ℕ) → Decides r (a ≡ b) → r ≡ same_name a b

@@ -1,9 +1,8 @@
 -- Texts are refused exactly for a reason. Assumes nothing.
-use Rattle.std.proofs.Common.{◌≡◌, ℕ, ◌<◌, ◌≤◌, Bool, true, false, cond, leb, ◌⊎◌, ◌↔◌, List, [], ◌∷◌, map, length, sym, refl, ap, ◌∙◌, subst, inl, inr}
+use Rattle.std.proofs.Common.{◌≡◌, ℕ, ◌≤◌, Bool, true, false, leb, List, [], ◌∷◌, map, length, sym, refl, ap, ◌∙◌, subst, inl, inr}
 use Rattle.std.proofs.lemmas.Bool.{cond-true, cond-false, le-leb, lt-leb, leb-true, leb-false}
-use Rattle.words.specs.Faults.{letter_number, letter_place}
 use Rattle.syntax.specs.Syntax.{W, Said, Reader, Out, ok, barred, flawed}
-use Rattle.syntax.specs.Exact.{Exact, Accepts, Refuses, Faults}
+use Rattle.syntax.specs.Exact.{Exact}
 use Rattle.syntax.specs.Tree as tree
 use Rattle.syntax.specs.Grammar.{say_book, say_goal}
 use Rattle.syntax.specs.Readers.{read_book, read_goal}
@@ -17,11 +16,10 @@ use Rattle.lexed.specs.declared.text.Ending.{Ending}
 use Rattle.lexed.specs.declared.text.Ending.TheVariants.{Clean, Faulty}
 use Rattle.lexed.specs.Texts.{text_words, raw_words, word_places}
 use Rattle.lexed.proofs.Names.{unmarked}
-use Rattle.book.specs.declared.faults.Layer.TheVariants as layer
 use Rattle.book.specs.Mentions.{in_rules, in_items}
 use Rattle.book.specs.Predicates.{Predicate, Listing, these, excess, listing, Unknowns, all_known, unknown_at, unknowns}
-use Rattle.book.specs.Reading.{Verdict, accepted, refused, Refusal, refusal, end_refusal, judged, judged_text, whole_or, with_predicates, with_known, book_meaning, goal_meaning, book_of, goal_of}
-use Rattle.book.specs.Claims.{Spelled, Begins, Reason, too_long, misspelt, unfinished, barring, faulting, meaning, TooManyPredicates, Lacking, BooksRefused, GoalsRefused}
+use Rattle.book.specs.Reading.{Verdict, accepted, refused, Refusal, end_refusal, judged, judged_text, whole_or, with_predicates, with_known, book_meaning, goal_meaning, book_of, goal_of}
+use Rattle.book.specs.Claims.{Reason, too_long, misspelt, unfinished, barring, faulting, meaning, TooManyPredicates, Lacking, BooksRefused, GoalsRefused}
 use Rattle.book.proofs.Accepted.{never, spelled_means}
 
 abbrev refusal_or : {X : Type 0} → Refusal → Verdict X → Refusal

@@ -1,17 +1,16 @@
 -- What the grammar's reading comes to, and what the code makes of it. Assumes nothing.
-use Rattle.std.proofs.Common.{◌≡◌, ℕ, zero, suc, ◌+◌, ◌-◌, ◌<◌, ◌≤◌, Bool, true, false, cond, ltb, leb, ◌⊎◌, List, [], ◌∷◌, map, length, get_or, drop, IsErrAnd, Ok, Err, Result, sym, refl, ap, ◌∙◌, subst, inl, inr, arith}
+use Rattle.std.proofs.Common.{◌≡◌, ℕ, zero, suc, ◌+◌, ◌-◌, ◌<◌, ◌≤◌, ltb, leb, ◌⊎◌, List, [], ◌∷◌, length, get_or, drop, IsErrAnd, Ok, Err, Result, sym, refl, ap, ◌∙◌, subst, inl, inr, arith}
 use Rattle.std.proofs.lemmas.Result.{err_from_is_err_and}
 use Rattle.std.proofs.lemmas.Bool.{cond-true, cond-false, lt-ltb, le-ltb, le-leb, lt-leb}
 use Rattle.std.proofs.lemmas.List.{length-map}
 use Rattle.words.specs.declared.faults.LetterFault.TheVariants.{TextTooLong}
-use Rattle.syntax.specs.Syntax.{W, Out, ok, barred, flawed}
+use Rattle.syntax.specs.Syntax.{W, Out, ok, barred}
 use Rattle.syntax.specs.Marking.{marked}
 use Rattle.parse.specs.declared.token.Token.{Token}
 use Rattle.parse.specs.declared.flaw.Flaw.{Flaw}
 use Rattle.parse.specs.declared.flaw.Flaw.TheVariants as flaw
 use Rattle.parse.specs.Flaws.{flawed_at, Faulted}
 use Rattle.parse.specs.Rules.{Rule}
-use Rattle.parse.specs.Model.{Item}
 use Rattle.lexed.specs.declared.text.Ending.{Ending}
 use Rattle.lexed.specs.declared.text.Ending.TheVariants.{Clean, Faulty}
 use Rattle.parse.specs.Tokens.{words}
@@ -20,10 +19,9 @@ use Rattle.book.specs.declared.faults.BookFault.{BookFault}
 use Rattle.book.specs.declared.faults.BookFault.TheVariants.{Grammar, Unbound, Reused, InGoal, Unknown, Memory}
 use Rattle.book.specs.declared.faults.GrammarFault.{GrammarFault}
 use Rattle.book.specs.declared.faults.GrammarFault.TheVariants.{Letter, Barred, TooMany}
-use Rattle.book.specs.declared.faults.Layer.TheVariants as layer
 use Rattle.book.specs.Endings.{BarredEnd, AtEnd}
-use Rattle.book.specs.Predicates.{Listing, these, excess, Excess}
-use Rattle.book.specs.Reading.{Verdict, accepted, refused, refusal, end_refusal, word_refusal, judged, judged_text, with_predicates, index_refusal, refusal_of, Located, Refuses, Answers, Book, layer_of}
+use Rattle.book.specs.Predicates.{Listing, Excess}
+use Rattle.book.specs.Reading.{Verdict, refused, refusal, end_refusal, word_refusal, judged, judged_text, with_predicates, index_refusal, refusal_of, Located, Refuses, Answers, layer_of}
 
 pub refuses_by : {Y : Type 0} (e : BookFault) (v : Verdict Y) → v ≡ refused (refusal_of e) → Refuses e v
 refuses_by (Grammar e) v h = h

@@ -10,13 +10,12 @@ use Rattle.syntax.specs.Marking.{marked, written}
 use Rattle.parse.specs.Model.{Item}
 use Rattle.parse.specs.Flat.{content_of}
 use Rattle.parse.specs.Rules.{rule_model}
-use Rattle.lexed.specs.declared.text.Ending.{Ending}
 use Rattle.lexed.specs.declared.text.Ending.TheVariants.{Clean, Faulty}
 use Rattle.lexed.specs.Texts.{text_words, raw_words, word_places}
 use Rattle.book.specs.declared.faults.Layer.TheVariants as layer
 use Rattle.book.specs.Mentions.{in_rules, in_items}
 use Rattle.book.specs.Predicates.{Predicate, these, excess, listing, unknowns, all_known, unknown_at}
-use Rattle.book.specs.Reading.{Book, Verdict, accepted, refused, Refusal, refusal, layer_of, book_of, goal_of}
+use Rattle.book.specs.Reading.{Book, accepted, refused, Refusal, refusal, layer_of, book_of, goal_of}
 
 -- the words of a text, as written, are just those of a tree, none with a fault; no fault of letters ends them, and the text is short enough
 pub record Spelled {X : Type 0} (say : X → Said) (most : ℕ) (text : List ℕ) (x : X) : Type 0 where

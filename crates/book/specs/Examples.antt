@@ -1,12 +1,10 @@
 -- Texts and what they are read as. Assumes nothing.
 use Rattle.std.specs.Prelude.{◌≡◌, ℕ, List, [], ◌∷◌, pos, codes}
 use Rattle.cells.specs.declared.relations.Relation.TheVariants as relation
-use Rattle.parse.specs.Model.{Term, number, variable, Mention, Asking, Item, add, fail, Alternative}
-use Rattle.parse.specs.Rules.{Rule}
+use Rattle.parse.specs.Model.{Term, number, variable, Mention, Item, add, fail, Alternative}
 use Rattle.book.specs.declared.faults.Layer.{Layer}
 use Rattle.book.specs.declared.faults.Layer.TheVariants as layer
-use Rattle.book.specs.Predicates.{Predicate}
-use Rattle.book.specs.Reading.{Book, Verdict, accepted, refused, refusal, book_of, goal_of}
+use Rattle.book.specs.Reading.{Book, accepted, refused, refusal, book_of, goal_of}
 
 -- a fact at a place of the text
 abbrev pub fact : ℕ → List ℕ → List Term → Mention

@@ -1,7 +1,6 @@
 -- The numbers, places and layers of faults. Assumes nothing.
 use Rattle.std.specs.Prelude.{ℕ}
 use Rattle.words.specs.Faults.{letter_number, letter_place}
-use Rattle.book.specs.declared.faults.GrammarFault.{GrammarFault}
 use Rattle.book.specs.declared.faults.GrammarFault.TheVariants.{Letter, Barred, TooMany}
 use Rattle.book.specs.declared.faults.BookFault.{BookFault}
 use Rattle.book.specs.declared.faults.BookFault.TheVariants.{Grammar, Unbound, Reused, InGoal, Unknown, Memory}

@@ -1,5 +1,5 @@
 -- What reading a text gives: a book or a goal, or a refusal by its number, place and layer. Assumes nothing.
-use Rattle.std.specs.Prelude.{◌≡◌, ℕ, suc, ◌-◌, Bool, true, false, cond, List, [], ◌∷◌, map, length, Ok, Err, vec_items, Result, nat_le, nat_lt, slice_index}
+use Rattle.std.specs.Prelude.{◌≡◌, ℕ, suc, ◌-◌, cond, List, [], ◌∷◌, map, length, Ok, Err, vec_items, Result, nat_le, nat_lt, slice_index}
 use Rattle.words.specs.Faults.{letter_number, letter_place}
 use Rattle.syntax.specs.Syntax.{W, Out, ok, barred, flawed}
 use Rattle.syntax.specs.Tree as tree
@@ -7,7 +7,7 @@ use Rattle.syntax.specs.Readers.{read_book, read_goal}
 use Rattle.syntax.specs.Marking.{marked}
 use Rattle.parse.specs.declared.flaw.Flaw.{Flaw}
 use Rattle.parse.specs.declared.flaw.Flaw.TheVariants as flaw
-use Rattle.parse.specs.Model.{Item, item, Mention}
+use Rattle.parse.specs.Model.{Item, item}
 use Rattle.parse.specs.Flat.{content_of}
 use Rattle.parse.specs.Rules.{Rule, rule_model, rule_view}
 use Rattle.lexed.specs.declared.text.Ending.{Ending}
@@ -21,7 +21,7 @@ use Rattle.book.specs.declared.library.Book.{Book as CodeBook}
 use Rattle.book.specs.declared.library.Goal.{Goal as CodeGoal}
 use Rattle.book.specs.Faults.{book_number, book_place, book_layer}
 use Rattle.book.specs.Mentions.{in_rules, in_items}
-use Rattle.book.specs.Predicates.{Predicate, predicates, predicate_of, has, Listing, these, excess, listing, Unknowns, all_known, unknown_at, unknowns}
+use Rattle.book.specs.Predicates.{Predicate, predicates, Listing, these, excess, listing, Unknowns, all_known, unknown_at, unknowns}
 
 -- a book: its predicates, numbered from 0 as they first appear, and its rules
 pub record Book : Type 0 where

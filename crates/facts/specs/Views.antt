@@ -1,5 +1,5 @@
 -- Facts, entries and standings as the code holds them, as plain values. Assumes nothing.
-use Rattle.std.specs.Prelude.{ℕ, List, [], ◌∷◌, map, Some, None, Option}
+use Rattle.std.specs.Prelude.{map, Some, None, Option}
 use Rattle.tree.specs.Walks as tree
 use Rattle.parse.specs.Fews.{few_items}
 use Rattle.steps.specs.State as model

@@ -1,10 +1,9 @@
 -- Lemmas on lists of waiting branches.
-use Rattle.std.proofs.Common.{◌≡◌, ℕ, suc, ◌+◌, ◌-◌, ◌<◌, ◌≤◌, List, [], ◌∷◌, ◌++◌, map, reverse, length, get_or, take, drop, set, Some, Option, sym, refl, ap, ◌∙◌, subst, append_assoc, append-nil, arith, take_all}
-use mathlib.Core.List.{reverse-cons}
+use Rattle.std.proofs.Common.{◌≡◌, ℕ, suc, ◌+◌, ◌<◌, ◌≤◌, List, [], ◌∷◌, ◌++◌, map, reverse, length, get_or, take, drop, set, Some, Option, sym, refl, ap, ◌∙◌, subst, append_assoc, append-nil, arith, take_all}
 use Rattle.std.specs.List.Sorted.{IsPermutation}
 use Rattle.std.specs.List.{swap}
 use Rattle.std.specs.Option.{option_to_list}
-use Rattle.std.proofs.lemmas.List.{take_more, drop_more, reverse-append, length-map, map-set, get_or-map}
+use Rattle.std.proofs.lemmas.List.{take_more, reverse-append, length-map, map-set, get_or-map}
 use Rattle.std.proofs.lemmas.List.Sorted.{IsPermutation-refl, IsPermutation-cons, IsPermutation-trans, IsPermutation-to_front, IsPermutation-swap, IsPermutation-keeps}
 
 module _ {X : Type 0} where

@@ -1,5 +1,5 @@
 -- What it is to give up everything.
-use Rattle.std.specs.Prelude.{◌≡◌, ℕ, List, [], ◌∷◌, ◌++◌, map, Some, None, Option}
+use Rattle.std.specs.Prelude.{◌≡◌, ℕ, List, [], ◌∷◌, ◌++◌, map, Some, Option}
 use Rattle.std.specs.List.Sorted.{IsPermutation}
 use Rattle.orders.specs.declared.branches.Waiting.{Waiting}
 use Rattle.orders.specs.Rows.{FirstOut}

@@ -1,3 +1,4 @@
 pub mod Bags
 pub mod Rows
 pub mod Drains
+pub mod Held

@@ -1,7 +1,7 @@
 ghost use Rattle.std.specs.Prelude.{◌≡◌, ◌≤◌, [], IfOk};
 ghost use Rattle.std.specs.VecDeque.{deque_len, deque_capacity};
 ghost use Rattle.orders.specs.Rows.{Behind, FirstOut};
-ghost use Rattle.std.proofs.Common.{rules, arith};
+ghost use Rattle.orders.specs.Held.{few_queued};
 
 use crate::branches::{Full, MOST_WAITING, Waiting};
 use crate::laws::Order;
@@ -33,7 +33,7 @@ impl Order for BreadthFirst {
 
     ghost gives = { λ d r e. FirstOut d.queue.items r e.queue.items };
 
-    ghost few = { first_of (Prim.search rules, Prim.grind (arith, Self.row.coded.inj)) };
+    ghost few = { λ o. few_queued o.queue.items (deque_len o.queue) o.queue.ok.0 o.small };
 
     fn clear(&mut self) {
         self.queue.clear();

@@ -1,7 +1,6 @@
 ghost use Rattle.std.specs.Prelude.{◌≡◌, ◌≤◌, [], reverse, IfOk, vec_len, vec_capacity};
 ghost use Rattle.orders.specs.Rows.{InFront, FirstOut};
-ghost use Rattle.std.proofs.Common.{arith};
-ghost use Rattle.std.proofs.lemmas.List.{length-reverse};
+ghost use Rattle.orders.specs.Held.{few_stacked};
 
 use crate::branches::{Full, MOST_WAITING, Waiting};
 use crate::laws::Order;
@@ -32,7 +31,7 @@ impl Order for DepthFirst {
 
     ghost gives = { λ d r e. FirstOut (reverse d.stack.items) r (reverse e.stack.items) };
 
-    ghost few = { λ o. omega (arith, o.stack.ok.0, o.small, length-reverse o.stack.items) };
+    ghost few = { λ o. few_stacked o.stack.items (vec_len o.stack) o.stack.ok.0 o.small };
 
     fn clear(&mut self) {
         self.stack.clear();

@@ -1,5 +1,5 @@
 -- Occurrences found in the table.
-use Rattle.std.proofs.Common.{◌≡◌, ℕ, zero, suc, pred, ◌+◌, ◌-◌, ◌<◌, ◌≤◌, Bool, true, false, ◌&&◌, eqb, ltb, List, [], ◌∷◌, ◌++◌, map, length, get_or, Some, None, vec_items, Option, sym, refl, ap, ◌∙◌, inl, inr, arith, ltb-true, ne_eqb, eqb-true}
+use Rattle.std.proofs.Common.{◌≡◌, ℕ, zero, suc, ◌+◌, ◌<◌, true, ◌&&◌, eqb, ltb, List, [], ◌∷◌, ◌++◌, map, length, get_or, Some, None, vec_items, sym, refl, ap, ◌∙◌, arith, ltb-true, ne_eqb, eqb-true}
 use borrow.Author.Tests.{clash}
 use Rattle.std.proofs.lemmas.Bool.{and_parts}
 use Rattle.std.proofs.lemmas.List.{get_or-map, length-map}
@@ -12,7 +12,7 @@ use Rattle.rulebook.specs.declared.rows.Occurrence.{Occurrence}
 use Rattle.rulebook.specs.declared.book.Book.{Book}
 use Rattle.rulebook.specs.Rows.{slice}
 use Rattle.rulebook.specs.Tables.{rule_in, program}
-use Rattle.rulebook.specs.Occurrences.{occurrence, headed, occurring, same_occurrences, listed_from, all_listed}
+use Rattle.rulebook.specs.Occurrences.{occurrence, headed, occurring, same_occurrences, listed_from}
 
 same_first : (x y : model.Occurrence) → eqb x.rule y.rule ≡ true → eqb x.head y.head ≡ true → x ≡ y
 same_first x y p q =

@@ -1,5 +1,5 @@
 -- The table of occurrences, and that it lists those of the rules. Assumes nothing.
-use Rattle.std.specs.Prelude.{ℕ, zero, suc, ◌≤◌, Bool, true, false, ◌&&◌, List, [], ◌∷◌, map, length, Some, None, Option, ◌==◌, nat_lt}
+use Rattle.std.specs.Prelude.{ℕ, suc, ◌≤◌, Bool, true, false, ◌&&◌, List, [], ◌∷◌, map, length, Some, None, Option, ◌==◌, nat_lt}
 use Rattle.parse.specs.Fews.{few_items}
 use Rattle.steps.specs.Program as model
 use Rattle.rulebook.specs.declared.rows.Span.{Span}

@@ -1,5 +1,5 @@
 -- The rows of a book's tables as plain values. Assumes nothing.
-use Rattle.std.specs.Prelude.{ℕ, List, [], ◌∷◌, map, take, drop}
+use Rattle.std.specs.Prelude.{List, map, take, drop}
 use Rattle.parse.specs.Fews.{few_items}
 use Rattle.parse.specs.Model.{term, telling}
 use Rattle.steps.specs.Program as model

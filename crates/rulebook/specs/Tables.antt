@@ -1,5 +1,5 @@
 -- A book's tables as the program that they hold. Assumes nothing.
-use Rattle.std.specs.Prelude.{List, map, vec_items}
+use Rattle.std.specs.Prelude.{map, vec_items}
 use Rattle.parse.specs.Fews.{few_items}
 use Rattle.parse.specs.Model.{asking}
 use Rattle.steps.specs.Program as model

@@ -1,5 +1,5 @@
 -- The examples, computed. Assumes nothing.
-use Rattle.std.proofs.Common.{◌≡◌, ℕ, List, [], ◌∷◌, Some, None, codes, refl}
+use Rattle.std.proofs.Common.{◌≡◌, ℕ, List, [], ◌∷◌, Some, codes, refl}
 use Rattle.syntax.specs.Readers.{read_arguments, read_items, read_body, read_askings, read_heads, read_book, read_goal}
 use Rattle.lexed.specs.Texts.{text_words}
 use Rattle.tree.specs.Walks.{leaf}

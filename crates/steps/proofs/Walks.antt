@@ -1,8 +1,8 @@
 -- What is computed of a walk is the straight walk. Assumes nothing.
-use Rattle.std.proofs.Common.{◌≡◌, ℕ, zero, suc, ◌+◌, ◌≤◌, Bool, true, false, ◌&&◌, leb, List, [], ◌∷◌, ◌++◌, Some, None, Option, sym, refl, subst, append_assoc, append-nil, add-one, arith, leb-true}
+use Rattle.std.proofs.Common.{◌≡◌, ℕ, zero, suc, Bool, true, false, ◌&&◌, leb, List, [], ◌∷◌, ◌++◌, Some, None, Option, sym, refl, subst, append_assoc, append-nil, add-one, arith, leb-true}
 use Rattle.tree.specs.Walks.{Path, Standing, branch, choice, leaf, Machine, Walks, opened, onward, taken, Stops}
 use Rattle.steps.specs.State.{State, End}
-use Rattle.steps.specs.Walk.{Walked, onwards, along, walked, machine, Reached, Computed}
+use Rattle.steps.specs.Walk.{Walked, onwards, along, machine, Reached, Computed}
 
 never : {X : Type 0} (w : Walked) → ◌≡◌ {A = Option Walked} None (Some w) → X
 never w e = let z : ◌≡◌ {A = ℕ} 0 1 = cc in absurd (omega arith)

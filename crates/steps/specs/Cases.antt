@@ -2,9 +2,9 @@
 use Rattle.std.specs.Prelude.{ℕ, suc, true, false, List, [], ◌∷◌, pos, negsuc, codes, ◌==◌}
 use Rattle.cells.specs.Bounds.{packed}
 use Rattle.cells.specs.Sets.{window}
-use Rattle.tree.specs.Walks.{Path, Standing, branch, choice, leaf}
-use Rattle.steps.specs.State.{Kind, Value, number, cell, Stored, Firing, State}
-use Rattle.steps.specs.State.{Cause, cell_for_number, number_too_large, store_full, stack_full, history_full, End, answer, failed, broken}
+use Rattle.tree.specs.Walks.{leaf}
+use Rattle.steps.specs.State.{Kind, number, cell, Stored, Firing, State}
+use Rattle.steps.specs.State.{cell_for_number, number_too_large, store_full, history_full, answer, failed, broken}
 use Rattle.steps.specs.Examples.{bounds, sets, Gives, stored, counts}
 
 -- the cells from number k on that are not whole, with their contents

@@ -2,12 +2,12 @@
 use Rattle.std.specs.Prelude.{◌≡◌, ℕ, List, [], ◌∷◌, length, pos, negsuc, Some, None, codes, Option}
 use Rattle.cells.specs.Bounds.{is_bounds, bounds_member, packed, bounds_narrowed, bounds_asked}
 use Rattle.cells.specs.Sets.{is_set, set_member, window, set_narrowed, set_asked}
-use Rattle.tree.specs.Walks.{Path, Standing, branch, choice, leaf}
+use Rattle.tree.specs.Walks.{Path, Standing, choice, leaf}
 use Rattle.parse.specs.Model as model
 use Rattle.book.specs.Reading.{Book, Verdict, accepted, refused, book_of, goal_of}
 use Rattle.steps.specs.Program.{program_of, goal_items}
-use Rattle.steps.specs.State.{Kind, Value, number, cell, Stored, Firing, State}
-use Rattle.steps.specs.State.{Cause, cell_for_number, number_too_large, store_full, stack_full, history_full, End, answer, failed, broken}
+use Rattle.steps.specs.State.{Kind, Value, number, Stored, State}
+use Rattle.steps.specs.State.{stack_full, End, answer, failed, broken}
 use Rattle.steps.specs.Walk.{machine, Walked, walked}
 
 -- the two kinds

@@ -1,5 +1,5 @@
 -- Values of terms, facts that match heads, guards, and the combination of facts that fires a rule.
-use Rattle.std.specs.Prelude.{ℕ, suc, Bool, true, false, cond, not, ◌&&◌, ◌||◌, List, [], ◌∷◌, ◌++◌, length, replicate, ℤ, pos, ◌+ℤ◌, Some, None, Option, ◌==◌, nat_eq, nat_lt, slice_index, slice_index_or, slice_set}
+use Rattle.std.specs.Prelude.{ℕ, suc, Bool, true, false, not, ◌&&◌, ◌||◌, List, [], ◌∷◌, ◌++◌, length, replicate, ℤ, pos, ◌+ℤ◌, Some, None, Option, ◌==◌, nat_eq, nat_lt, slice_index, slice_index_or, slice_set}
 use Rattle.cells.specs.declared.relations.Relation.{Relation}
 use Rattle.cells.specs.declared.relations.Relation.TheVariants as relation
 use Rattle.cells.specs.Relations.{holds}

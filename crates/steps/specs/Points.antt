@@ -1,9 +1,9 @@
 -- Small walks, each for one point of the steps. Assumes nothing.
-use Rattle.std.specs.Prelude.{ℕ, List, [], ◌∷◌, pos, negsuc, codes}
+use Rattle.std.specs.Prelude.{ℕ, List, [], ◌∷◌, pos, codes}
 use Rattle.cells.specs.Bounds.{packed}
-use Rattle.tree.specs.Walks.{Standing, leaf}
-use Rattle.steps.specs.State.{Value, number, cell, Stored, Firing, State}
-use Rattle.steps.specs.State.{Cause, cell_for_number, number_too_large, stack_full, End, answer, failed, broken}
+use Rattle.tree.specs.Walks.{leaf}
+use Rattle.steps.specs.State.{number, cell}
+use Rattle.steps.specs.State.{cell_for_number, number_too_large, stack_full, End, answer, failed, broken}
 use Rattle.steps.specs.Examples.{bounds, sets, Gives, facts, counts, stored}
 use Rattle.steps.specs.Cases.{sight, fired}
 

@@ -1,5 +1,5 @@
 -- A book as the machine runs it: facts by the number of their predicate, heads in the order written.
-use Rattle.std.specs.Prelude.{ℕ, suc, pred, Bool, true, false, List, [], ◌∷◌, ◌++◌, map, length, ◌==◌, slice_index_or}
+use Rattle.std.specs.Prelude.{ℕ, suc, pred, true, false, List, [], ◌∷◌, ◌++◌, map, length, ◌==◌, slice_index_or}
 use Rattle.parse.specs.Model.{Term, Asking, Tell, Mention}
 use Rattle.parse.specs.Model as model
 use Rattle.parse.specs.Rules as written

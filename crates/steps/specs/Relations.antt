@@ -1,10 +1,10 @@
 -- When a rule applies, as relations: facts match heads, guards follow from the members of cells, and a combination is the first.
-use Rattle.std.specs.Prelude.{◌≡◌, ℕ, ◌<◌, ◌≤◌, Bool, true, false, List, [], ◌∷◌, ◌++◌, map, length, ℤ, pos, negsuc, ◌+ℤ◌, ◌≤ℤ◌, Some, None, slice_index, slice_index_or}
+use Rattle.std.specs.Prelude.{◌≡◌, ℕ, ◌<◌, ◌≤◌, true, List, [], ◌∷◌, map, length, ℤ, pos, negsuc, ◌+ℤ◌, ◌≤ℤ◌, Some, None, slice_index, slice_index_or}
 use Rattle.cells.specs.Relations.{holds}
 use Rattle.parse.specs.Model.{Term, Asking}
 use Rattle.parse.specs.Model as term
 use Rattle.steps.specs.Program.{Pattern, Item, add, tell, fail, Rule}
-use Rattle.steps.specs.State.{Kind, Value, number, cell, Fact, Stored, Bindings, Entry, to_add, to_tell, to_fail, Firing, State, Cause, cell_for_number, number_too_large}
+use Rattle.steps.specs.State.{Kind, Value, number, cell, Stored, Bindings, Entry, to_add, to_tell, to_fail, State, Cause, cell_for_number, number_too_large}
 use Rattle.steps.specs.Matching.{bound}
 
 -- x is an element of the list

@@ -1,5 +1,5 @@
 -- What the machine works on: values, facts, entries, states, and the ends of a branch.
-use Rattle.std.specs.Prelude.{ℕ, Bool, List, [], ◌∷◌, ℤ, Option}
+use Rattle.std.specs.Prelude.{ℕ, Bool, List, ℤ, Option}
 use Rattle.cells.specs.declared.relations.Relation.{Relation}
 use Rattle.cells.specs.declared.relations.Telling.{Telling}
 

@@ -1,12 +1,12 @@
 -- The transitions of the machine: those of the refined semantics with disjunction, and what the limits add to them.
-use Rattle.std.specs.Prelude.{◌≡◌, ℕ, suc, ◌<◌, ◌≤◌, Bool, true, false, List, [], ◌∷◌, ◌++◌, length, drop, ℤ, Some, None, slice_index, slice_set}
+use Rattle.std.specs.Prelude.{◌≡◌, ℕ, suc, ◌<◌, ◌≤◌, true, false, List, [], ◌∷◌, ◌++◌, length, drop, ℤ, Some, None, slice_index, slice_set}
 use Rattle.cells.specs.declared.relations.Telling.{Telling}
 use Rattle.cells.specs.Relations.{meets}
 use Rattle.cells.specs.Laws.{Leaves}
-use Rattle.tree.specs.Walks.{Standing, branch, choice, leaf}
-use Rattle.steps.specs.Program.{Program, Rule, Occurrence, rule_at, alternative_at, occurrences}
-use Rattle.steps.specs.State.{Kind, Value, number, cell, Fact, Stored, Bindings, Entry, to_add, to_tell, to_fail, woken, active, alternative, choosing, Firing, State}
-use Rattle.steps.specs.State.{Cause, store_full, stack_full, history_full, End, answer, failed, broken}
+use Rattle.tree.specs.Walks.{choice}
+use Rattle.steps.specs.Program.{Program, Rule, rule_at, alternative_at, occurrences}
+use Rattle.steps.specs.State.{Kind, number, cell, Fact, Stored, Bindings, Entry, to_add, to_tell, to_fail, woken, active, alternative, choosing, Firing, State}
+use Rattle.steps.specs.State.{Cause, store_full, stack_full, history_full, failed, broken}
 use Rattle.steps.specs.Step.{Outcome, ends, goes, without, body_entry, occurrence_at}
 use Rattle.steps.specs.Relations.{In, Each, Breaks, identifiers, Combines, Fires, BodyEntry, BadEntry}
 

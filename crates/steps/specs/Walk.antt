@@ -1,5 +1,5 @@
 -- The planner as a machine that walks and comes to choices and ends, and its walk along a path computed.
-use Rattle.std.specs.Prelude.{◌≡◌, ℕ, zero, suc, Bool, true, false, ◌&&◌, List, [], ◌∷◌, ◌++◌, replicate, Some, None, Ok, Err, Option, Result, nat_le}
+use Rattle.std.specs.Prelude.{◌≡◌, ℕ, zero, suc, true, false, ◌&&◌, List, [], ◌∷◌, ◌++◌, replicate, Some, None, Ok, Err, Option, Result, nat_le}
 use Rattle.tree.specs.Walks.{Path, Standing, branch, choice, leaf, Machine, Walks, Stops}
 use Rattle.steps.specs.Program.{Program, Item}
 use Rattle.steps.specs.State.{Kind, Entry, to_add, to_tell, to_fail, woken, active, alternative, choosing, State, Cause, End}

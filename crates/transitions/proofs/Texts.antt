@@ -1,7 +1,7 @@
 -- Accepted texts keep the limits of the grammar, and so do the program and the goal that they give. Assumes nothing.
 use Rattle.std.proofs.Common.{◌≡◌, ℕ, ◌≤◌, Bool, true, false, cond, leb, List, [], ◌∷◌, map, length, sym, refl, ap, ◌∙◌, subst, arith}
 use lib.ListN.{length-map}
-use Rattle.syntax.specs.Syntax.{W, sign, fine, Said, plain, Out, ok, barred, flawed, Reader}
+use Rattle.syntax.specs.Syntax.{W, sign, fine, Said, Out, ok, barred, flawed, Reader}
 use Rattle.syntax.specs.Marks.{comma, dot, close_mark}
 use Rattle.syntax.specs.Tree as tree
 use Rattle.syntax.specs.Exact.{Accepts, Exact}
@@ -25,7 +25,7 @@ use Rattle.book.specs.declared.faults.Layer.TheVariants as layer
 use Rattle.book.specs.Mentions.{in_rules, in_items}
 use Rattle.book.specs.Predicates.{Predicate, Listing, these, excess, listing, Unknowns, all_known, unknown_at, unknowns}
 use Rattle.book.specs.Reading.{Book, Refusal, refusal, Verdict, accepted, refused, judged, judged_text, with_predicates, book_meaning, book_of, with_known, goal_meaning, goal_of}
-use Rattle.steps.specs.Program.{Program, Rule, Item, numbered_item, numbered_rule, program_of, goal_items}
+use Rattle.steps.specs.Program.{Program, Rule, numbered_item, numbered_rule, program_of, goal_items}
 use Rattle.steps.specs.Relations.{In, Every, every_none, every_more, InHeads}
 use Rattle.transitions.specs.Goals.{PlainNumber, PlainTerm, PlainItem, PlainGoal}
 use Rattle.transitions.specs.Texts.{FitProgram, FitGoal, TextsFit}

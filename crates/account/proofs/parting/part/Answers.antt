@@ -1,4 +1,4 @@
-use Rattle.std.proofs.Common.{◌≡◌, ◌<◌, sym, subst, arith}
+use Rattle.std.proofs.Common.{sym, subst, arith}
 use Rattle.account.specs.Parting.{Asks}
 use Rattle.account.proofs.parting.part.Goals as goal
 

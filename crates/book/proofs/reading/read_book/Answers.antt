@@ -1,14 +1,14 @@
-use Rattle.std.proofs.Common.{◌≡◌, [], map, vec_items, sym, refl, ap, ◌∙◌, subst}
+use Rattle.std.proofs.Common.{[], map, vec_items, sym, ap, ◌∙◌}
 use Rattle.parse.specs.Tokens.{words}
 use Rattle.lexed.specs.Texts.{places}
-use Rattle.book.specs.declared.faults.BookFault.TheVariants.{Grammar, Unknown}
+use Rattle.book.specs.declared.faults.BookFault.TheVariants.{Grammar}
 use Rattle.book.proofs.Verdicts.{exit_book, refuses_as, flaw_refuses, end_fault, end_clean, within, beyond, excess_refuses, as_many}
 use Rattle.syntax.specs.Readers.{read_book}
 use Rattle.parse.specs.Model.{mention}
 use Rattle.parse.specs.Rules.{rule_view, rule_model}
 use Rattle.book.specs.Mentions.{in_rules}
-use Rattle.book.specs.Predicates.{listing, predicates}
-use Rattle.book.specs.Reading.{book_of, book_view, book_meaning, with_predicates, Refuses, accepted}
+use Rattle.book.specs.Predicates.{listing}
+use Rattle.book.specs.Reading.{book_of, book_view, book_meaning, with_predicates}
 use Rattle.book.proofs.reading.read_book.Goals as goal
 
 pub returns-in_err-fits_within : goal.returns-in_err-fits_within

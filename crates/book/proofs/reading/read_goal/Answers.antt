@@ -1,7 +1,7 @@
-use Rattle.std.proofs.Common.{◌≡◌, [], map, vec_items, sym, refl, ap, ◌∙◌, subst}
+use Rattle.std.proofs.Common.{map, vec_items, sym, ap, ◌∙◌}
 use Rattle.parse.specs.Tokens.{words}
 use Rattle.lexed.specs.Texts.{places}
-use Rattle.book.specs.declared.faults.BookFault.TheVariants.{Grammar, Unknown}
+use Rattle.book.specs.declared.faults.BookFault.TheVariants.{Grammar}
 use Rattle.book.proofs.Verdicts.{exit_book, refuses_as, flaw_refuses, end_fault, end_clean, within, beyond, as_many}
 use Rattle.syntax.specs.Readers.{read_goal}
 use Rattle.parse.specs.Model.{mention, item}

@@ -1,4 +1,4 @@
-use Rattle.std.proofs.Common.{◌≡◌, [], map, vec_items, sym, refl, ap, ◌∙◌, arith}
+use Rattle.std.proofs.Common.{[], map, vec_items, ap, arith}
 use Rattle.parse.specs.Model.{mention}
 use Rattle.book.specs.Predicates.{coded, listing}
 use Rattle.book.proofs.Numbering.{listing_more, listing_over, listing_all, exit_listed}

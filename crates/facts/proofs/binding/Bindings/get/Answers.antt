@@ -1,4 +1,4 @@
-use Rattle.std.proofs.Common.{◌<◌, length, get_or, None, sym, arith}
+use Rattle.std.proofs.Common.{◌<◌, length, None, sym, arith}
 use Rattle.std.proofs.lemmas.List.{get_or-map}
 use Rattle.facts.specs.Views.{value_if}
 use Rattle.facts.proofs.binding.Bindings.get.Goals as goal

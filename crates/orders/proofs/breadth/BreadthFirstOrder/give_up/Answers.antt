@@ -1,4 +1,4 @@
-use Rattle.std.proofs.Common.{◌≡◌, ◌<◌, ◌≤◌, [], length, deque_items, deque_len, refl, sym, ap, ◌∙◌, arith}
+use Rattle.std.proofs.Common.{◌≡◌, ◌<◌, [], length, deque_items, deque_len, refl, sym, ap, ◌∙◌, arith}
 use Rattle.orders.proofs.Bagged.{first_off, shuffled_same, empty}
 use Rattle.orders.proofs.Queues.{same_queue}
 use Rattle.orders.proofs.breadth.BreadthFirstOrder.give_up.Goals as goal

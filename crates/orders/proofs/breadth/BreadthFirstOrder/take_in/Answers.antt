@@ -1,4 +1,4 @@
-use Rattle.std.proofs.Common.{◌∙◌, arith, rules}
+use Rattle.std.proofs.Common.{◌∙◌, arith}
 use Rattle.orders.proofs.Bagged.{pushed, all_pushed, shuffled_same}
 use Rattle.orders.proofs.breadth.BreadthFirstOrder.take_in.Goals as goal
 

@@ -1,4 +1,4 @@
-use Rattle.std.proofs.Common.{◌≡◌, [], reverse, vec_items, vec_len, sym, refl, ap, arith, rules}
+use Rattle.std.proofs.Common.{◌≡◌, reverse, vec_len, sym, refl, ap, rules}
 use Rattle.orders.proofs.Bagged.{popped, shuffled_same, empty}
 use Rattle.orders.proofs.depth.DepthFirstOrder.give_up.Goals as goal
 

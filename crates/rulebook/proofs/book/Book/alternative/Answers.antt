@@ -1,6 +1,6 @@
 use Rattle.std.proofs.Common.{◌≡◌, ℕ, pred, ◌-◌, List, [], get_or, ap, ◌∙◌}
 use Rattle.steps.specs.Program.{Alternative}
-use Rattle.rulebook.specs.Tables.{alternative_in, rule_in}
+use Rattle.rulebook.specs.Tables.{alternative_in}
 use Rattle.rulebook.proofs.Places.{found, past, pred_is}
 use Rattle.rulebook.proofs.book.Book.alternative.Goals as goal
 

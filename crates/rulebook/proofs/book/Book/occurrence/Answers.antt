@@ -1,5 +1,4 @@
-use Rattle.std.proofs.Common.{◌≡◌, ℕ, ◌-◌, ◌<◌, ◌≤◌, List, length, sym, ap, ◌∙◌, arith}
-use Rattle.steps.specs.Program as model
+use Rattle.std.proofs.Common.{◌-◌, ◌<◌, length, sym, ap, ◌∙◌, arith}
 use Rattle.steps.specs.Program.{occurrences}
 use Rattle.steps.specs.Step.{occurrence_at}
 use Rattle.rulebook.specs.Rows.{slice}
