@@ -9,7 +9,7 @@ use Rattle.steps.specs.Step.{occurrence_at}
 use Rattle.rulebook.specs.declared.rows.Span.{Span}
 use Rattle.rulebook.specs.declared.rows.Rule.{Rule}
 use Rattle.rulebook.specs.declared.rows.Occurrence.{Occurrence}
-use Rattle.rulebook.specs.declared.book.Book.{Book}
+use Rattle.rulebook.specs.declared.settled.Book.{Book}
 use Rattle.rulebook.specs.Rows.{slice}
 use Rattle.rulebook.specs.Tables.{rule_in, program}
 use Rattle.rulebook.specs.Occurrences.{occurrence, headed, occurring, same_occurrences, listed_from}

@@ -5,7 +5,7 @@ use Rattle.parse.specs.Model.{asking}
 use Rattle.steps.specs.Program as model
 use Rattle.rulebook.specs.declared.rows.Alternative.{Alternative}
 use Rattle.rulebook.specs.declared.rows.Rule.{Rule}
-use Rattle.rulebook.specs.declared.book.Book.{Book}
+use Rattle.rulebook.specs.declared.settled.Book.{Book}
 use Rattle.rulebook.specs.Rows.{slice, pattern, item}
 
 -- an alternative whose items lie in a book

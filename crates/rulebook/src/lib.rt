@@ -1,5 +1,5 @@
 // A rule book as the machine runs it.
 #![tactic(auto)]
 
-pub mod book;
 pub mod rows;
+pub mod settled;

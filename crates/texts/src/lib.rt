@@ -1,5 +1,5 @@
 // Facts, paths and cells as text.
 #![tactic(auto)]
 
-pub mod facts;
 pub mod page;
+pub mod wording;

@@ -1,6 +1,6 @@
 -- At any time: every end was met or lies on or beyond one open path.
 use Rattle.std.proofs.Common.{◌≡◌, ℕ, ◌+◌, ◌<◌, ◌≤◌, ◌⊎◌, List, [], ◌∷◌, ◌++◌, map, sym, refl, ap, subst, inl, inr, arith}
-use Rattle.std.specs.List.{ContainsAt as Has, AllByRecursion as All}
+use Rattle.std.specs.List.{ContainsAt as Has, AllByRecursion}
 use Rattle.std.proofs.ByRecursion.{all-has, has_append_right}
 use Rattle.std.proofs.lemmas.List.{append-nil, append_assoc, map-id}
 use Rattle.std.proofs.lemmas.Bool.{cases_lt}
@@ -54,7 +54,7 @@ module _ {E : Type 0} where
           let b = below (omega arith) in
           (b.0, b.1, has_there k b.0 ks b.2, b.3, b.4)
 
-module _ {S E : Type 0} (M : Machine S E) (left : List Path) (done : List (EndedEdge E)) (walked : All (Walked M) done) (covers : (r : Path) → delta r [] + times r (all_children done) ≡ times r (paths done) + times r left) where
+module _ {S E : Type 0} (M : Machine S E) (left : List Path) (done : List (EndedEdge E)) (walked : AllByRecursion (Walked M) done) (covers : (r : Path) → delta r [] + times r (all_children done) ≡ times r (paths done) + times r left) where
   all_once : (p : Path) → times p (paths done) + times p left ≤ 1
   all_once p = go (snoc p)
     where

@@ -1,6 +1,6 @@
 -- What a search holds after each of its units, over its parts, and what it comes to.
 use Rattle.std.proofs.Common.{◌≡◌, ℕ, zero, suc, ◌+◌, ◌≤◌, true, List, [], ◌∷◌, ◌++◌, map, sym, refl, ap, ◌∙◌, subst, arith}
-use Rattle.std.specs.List.{AllByRecursion as All}
+use Rattle.std.specs.List.{AllByRecursion}
 use Rattle.std.specs.List.Sorted.{IsPermutation}
 use Rattle.std.proofs.ByRecursion.{All-append, All-push, all_shuffled}
 use Rattle.std.proofs.lemmas.List.Sorted.{IsPermutation-refl}
@@ -143,17 +143,17 @@ module _ {S E : Type 0} (M : Machine S E) where
   abbrev Ready : Path × S → Type 0
   Ready x = Walks M x.0 0 x.1 branch
 
-  alternatives_ready : (p : Path) (n : ℕ) (s : S) (top : ℕ) → Walks M p n s (choice top) → (m : ℕ) → m ≤ top → All Ready (alternatives M p s m)
+  alternatives_ready : (p : Path) (n : ℕ) (s : S) (top : ℕ) → Walks M p n s (choice top) → (m : ℕ) → m ≤ top → AllByRecursion Ready (alternatives M p s m)
   alternatives_ready p n s top w zero l = tt
   alternatives_ready p n s top w (suc m) l = All-push Ready (alternatives M p s m) (p ++ (suc m ∷ []), M.pick s (suc m)) (alternatives_ready p n s top w m (omega arith)) (taken (suc m) (omega arith) l w)
 
-  new_waiting_ready : (p : Path) (n : ℕ) (s : S) (st : Standing E) → Walks M p n s st → All Ready (new_waiting M p s st)
+  new_waiting_ready : (p : Path) (n : ℕ) (s : S) (st : Standing E) → Walks M p n s st → AllByRecursion Ready (new_waiting M p s st)
   new_waiting_ready p n s branch w = tt
   new_waiting_ready p n s (choice m) w = alternatives_ready p n s m w m (omega arith)
   new_waiting_ready p n s (leaf e) w = tt
 
   abbrev Sound : List Work → Search S E → Type 0
-  Sound us x = Held M us x.leaves (firsts x.waiting) x.place x.steps × All Ready x.waiting
+  Sound us x = Held M us x.leaves (firsts x.waiting) x.place x.steps × AllByRecursion Ready x.waiting
 
   bag_more : (p : Path) (t : S) (st : Standing E) (w v : List (Path × S)) → IsPermutation (w ++ new_waiting M p t st) v → (r : Path) → times r (firsts v) ≡ times r (firsts w) + times r (children_at p st)
   bag_more p t st w v sh r =

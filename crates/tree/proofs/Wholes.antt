@@ -1,6 +1,6 @@
 -- When nothing waits and nothing is under way, every end was met exactly once.
 use Rattle.std.proofs.Common.{◌≡◌, ℕ, ◌+◌, ◌<◌, ◌≤◌, ◌⊎◌, List, [], ◌∷◌, ◌++◌, map, sum_by, sym, refl, ap, ◌∙◌, subst, inl, inr, arith}
-use Rattle.std.specs.List.{ContainsAt as Has, AllByRecursion as All}
+use Rattle.std.specs.List.{ContainsAt as Has, AllByRecursion}
 use Rattle.std.proofs.lemmas.List.Sums.{sum_by-cons}
 use Rattle.std.proofs.ByRecursion.{all-has, All-append, has_append_left, has_append_right}
 use Rattle.std.proofs.lemmas.List.{map-append, append-nil, append_assoc}
@@ -120,23 +120,23 @@ abbrev pub Beyond : List Path → Path → Type 0
 Beyond left p = (q : Path) × (r : Path) × (1 ≤ times q left) × (p ≡ q ++ r)
 
 module _ {S E : Type 0} (M : Machine S E) where
-  leaves_at_ends : (k : EndedEdge E) → Walked M k → All (λ (l : Path × E). Ends M l.0 l.1) (leaves_at k.path k.standing)
+  leaves_at_ends : (k : EndedEdge E) → Walked M k → AllByRecursion (λ (l : Path × E). Ends M l.0 l.1) (leaves_at k.path k.standing)
   leaves_at_ends k d = go k.standing d.1
     where
-      go : (st : Standing E) → Walks M k.path k.steps d.0 st → All (λ (l : Path × E). Ends M l.0 l.1) (leaves_at k.path st)
+      go : (st : Standing E) → Walks M k.path k.steps d.0 st → AllByRecursion (λ (l : Path × E). Ends M l.0 l.1) (leaves_at k.path st)
       go branch w = tt
       go (choice m) w = tt
       go (leaf e) w = ((k.steps, d.0, w), tt)
 
-  pub leaves_of_ends : (done : List (EndedEdge E)) → All (Walked M) done → All (λ (l : Path × E). Ends M l.0 l.1) (leaves_of done)
+  pub leaves_of_ends : (done : List (EndedEdge E)) → AllByRecursion (Walked M) done → AllByRecursion (λ (l : Path × E). Ends M l.0 l.1) (leaves_of done)
   leaves_of_ends [] a = tt
   leaves_of_ends (k ∷ ks) a = All-append _ (leaves_at k.path k.standing) (leaves_of ks) (leaves_at_ends k a.0) (leaves_of_ends ks a.1)
 
-  edges_edges : (done : List (EndedEdge E)) → All (Walked M) done → All (λ (l : Path × ℕ). Edge M l.0 l.1) (map edge_of done)
+  edges_edges : (done : List (EndedEdge E)) → AllByRecursion (Walked M) done → AllByRecursion (λ (l : Path × ℕ). Edge M l.0 l.1) (map edge_of done)
   edges_edges [] a = tt
   edges_edges (k ∷ ks) a = ((a.0.0, k.standing, a.0.1, a.0.2), edges_edges ks a.1)
 
-  module _ (left : List Path) (done : List (EndedEdge E)) (walked : All (Walked M) done) (covers : (r : Path) → delta r [] + times r (all_children done) ≡ times r (paths done) + times r left) where
+  module _ (left : List Path) (done : List (EndedEdge E)) (walked : AllByRecursion (Walked M) done) (covers : (r : Path) → delta r [] + times r (all_children done) ≡ times r (paths done) + times r left) where
     -- a walked path counts at most once among the ended
     most : {p : Path} {n : ℕ} {s : S} {x : Standing E} → Walks M p n s x → times p (paths done) ≤ 1
     most opened = let a = covers [] in let b = all_children_nil done in omega arith
@@ -192,7 +192,7 @@ module _ {S E : Type 0} (M : Machine S E) where
             subst P f.2 (most d.1)
         go (inr l) = l
 
-  module _ (done : List (EndedEdge E)) (walked : All (Walked M) done) (covers : (r : Path) → delta r [] + times r (all_children done) ≡ times r (paths done) + times r []) where
+  module _ (done : List (EndedEdge E)) (walked : AllByRecursion (Walked M) done) (covers : (r : Path) → delta r [] + times r (all_children done) ≡ times r (paths done) + times r []) where
     -- and, with nothing open, at least once
     least : {p : Path} {n : ℕ} {s : S} {x : Standing E} → Walks M p n s x → 1 ≤ times p (paths done)
     least {p} w = go (reach [] done walked covers w)

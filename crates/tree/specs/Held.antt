@@ -1,6 +1,6 @@
 -- The invariant that every unit keeps and that the account follows from. A program's own account cites it; to read the theorem it is not needed.
 use Rattle.std.specs.Prelude.{◌≡◌, ℕ, zero, suc, ◌+◌, cond, List, [], ◌∷◌, ◌++◌, map, sum_by, ◌==◌}
-use Rattle.std.specs.List.{flat_map, AllByRecursion as All}
+use Rattle.std.specs.List.{flat_map, AllByRecursion}
 use Rattle.tree.specs.Walks.{Path, Standing, branch, choice, leaf, Machine, Stops, Walks}
 use Rattle.tree.specs.Searches.{Work, told, leaves_at, Met, Place, out, at, under_way}
 use Rattle.tree.specs.Laws.{Here}
@@ -58,7 +58,7 @@ steps_of {E} done = sum_by (λ (k : EndedEdge E). k.steps) done
 pub record Tally {S E : Type 0} (M : Machine S E) (under waiting : List Path) (leaves : List (Path × E)) (sum : ℕ) : Type 0 where
   -- the edges that have ended, in the order in which they did
   pub done : List (EndedEdge E)
-  pub walked : All (Walked M) done
+  pub walked : AllByRecursion (Walked M) done
   -- the root and the alternatives of all choices met are, each as often, the paths ended, under way and waiting
   pub covers : (r : Path) → delta r [] + times r (all_children done) ≡ times r (paths done) + (times r under + times r waiting)
   pub leaves_are : leaves ≡ leaves_of done

@@ -4,8 +4,8 @@ use Rattle.steps.specs.Step.{occurrence_at}
 use Rattle.rulebook.specs.Rows.{slice}
 use Rattle.rulebook.specs.Tables.{program}
 use Rattle.rulebook.proofs.Listing.{places_32, row_few, row_found, row_past, none_at_0}
-use Rattle.rulebook.proofs.book.Book.occurrence.Goals as goal
-use Rattle.rulebook.proofs.book.Book.occurrence.Goals.{then-at-len-via-then-at-len, then-at-len-via-else-at-len+then-number-eq0, else-place-row-via-then-place-row+else-place-lt254, else-place-row-via-else-place-row}
+use Rattle.rulebook.proofs.settled.Book.occurrence.Goals as goal
+use Rattle.rulebook.proofs.settled.Book.occurrence.Goals.{then-at-len-via-then-at-len, then-at-len-via-else-at-len+then-number-eq0, else-place-row-via-then-place-row+else-place-lt254, else-place-row-via-else-place-row}
 
 pub returns-then-at-len : goal.returns-then-at-len
 returns-then-at-len c =

@@ -2,7 +2,7 @@ use Rattle.std.proofs.Common.{◌≡◌, ℕ, pred, ◌-◌, List, [], get_or, a
 use Rattle.steps.specs.Program.{Alternative}
 use Rattle.rulebook.specs.Tables.{alternative_in}
 use Rattle.rulebook.proofs.Places.{found, past, pred_is}
-use Rattle.rulebook.proofs.book.Book.alternative.Goals as goal
+use Rattle.rulebook.proofs.settled.Book.alternative.Goals as goal
 
 abbrev none : Alternative
 none = record { weight = 0; items = [] }
