@@ -84,7 +84,7 @@ impl Book {
         part(&self.items, alternative.items)
     }
 
-    // The occurrence of a number, counted from 1, of a predicate; a predicate has at most 255.
+    // The occurrence of a number, counted from 1, of a predicate; a predicate has fewer than 255.
     pub fn occurrence(&self, predicate: PredicateNumber, number: u8) -> Option<Occurrence>
         ensures found { occurrence_if result ≡ occurrence_at (occurrences (program self.now) predicate.index) number }
         ensures few { Reached number result }
