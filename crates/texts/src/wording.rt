@@ -114,3 +114,32 @@ impl Page {
         self.members(least, greatest, count)
     }
 }
+
+#[cfg(test)]
+mod tests {
+    use crate::page::Page;
+    use facts::value::Value;
+    use parse::few::Few;
+    use parse::number::{Cell, Number};
+    use std::test::Fail;
+    use words::name::Name;
+
+    #[test]
+    fn writes_facts_paths_and_cells(rt: HostRuntime) -> Result<(), Fail> {
+        let mut page = Page::new(rt.alloc());
+        let cell = Cell { index: 3 };
+        let below = Value::Number(Number { value: -7 });
+        if let Some(name) = Name::of(b"key") {
+            page.fact(&name, Few::Two(below, Value::Cell(cell)))?;
+        }
+        page.text(" ")?;
+        page.path(&[2, 1])?;
+        page.text(" ")?;
+        page.path(&[])?;
+        page.text(" ")?;
+        page.cell(cell, 1, 9, 4)?;
+        let written = b"key(-7,#3) 2.1 - #3 from 1 to 9, 4 members";
+        assert!(rt; page.bytes.as_slice() == written.as_slice());
+        Ok(())
+    }
+}

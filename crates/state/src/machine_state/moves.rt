@@ -37,3 +37,20 @@ impl State {
         self.history.clear();
     }
 }
+
+#[cfg(test)]
+mod tests {
+    use crate::machine_state::State;
+    use cells::bounds::Bounds;
+    use std::test::Fail;
+
+    #[test]
+    fn is_made_empty(rt: HostRuntime) -> Result<(), Fail> {
+        let state = State::new::<Bounds>(rt.alloc())?;
+        assert_eq!(rt; state.stack.len(), 0);
+        assert!(rt; state.store.list().is_empty());
+        assert_eq!(rt; state.store.next(), 1);
+        assert_eq!(rt; state.history.len(), 0);
+        Ok(())
+    }
+}
