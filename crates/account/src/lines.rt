@@ -4,7 +4,7 @@ ghost use Rattle.std.specs.List.{prefix_len};
 ghost use Rattle.account.specs.Lines.{inline, start_of_line, spot_at, seen_spot};
 
 // A line without its line feed, and how many of its bytes stand before the place.
-#[derive(Clone, Copy)]
+#[derive(Clone, Copy, Debug, PartialEq, Eq)]
 pub struct Spot<'a> {
     pub line: &'a [u8],
     pub column: usize,

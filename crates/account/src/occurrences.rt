@@ -14,7 +14,7 @@ use std::alloc::{AllocError, Global};
 use words::name::spelling::same_name;
 
 // A rule and one of its heads, both counted from 0; the kept heads come before the removed ones.
-#[derive(Clone, Copy)]
+#[derive(Clone, Copy, Debug, PartialEq, Eq)]
 pub struct Occurrence {
     pub rule: usize,
     pub head: usize,

@@ -13,7 +13,7 @@ use std::alloc::AllocError;
 use words::name::Name;
 
 // The part of an input in which a fault lies.
-#[derive(Clone, Copy)]
+#[derive(Clone, Copy, Debug, PartialEq, Eq)]
 pub enum Source {
     Book,
     Goal,

@@ -4,38 +4,28 @@ ghost use Rattle.book.specs.Claims.{BooksAccepted, OneBook, BooksRefused, GoalsA
 
 // A text is accepted as a book exactly if some tree of the grammar is written with just its words, none with a fault, within the limits,
 // and the book is that tree's; a text is at most one book.
-pub fn books_are_spelled() -> u8
+pub fn books_are_spelled()
     ensures accepted { BooksAccepted }
     ensures one { OneBook }
-{
-    0
-}
+{}
 
 // A text is refused exactly for one of the reasons that the grammar and the book's limits give, with that reason's number, place and layer.
-pub fn books_are_refused_for_a_reason() -> u8
+pub fn books_are_refused_for_a_reason()
     ensures { BooksRefused }
-{
-    0
-}
+{}
 
 // The same of goals.
-pub fn goals_are_refused_for_a_reason() -> u8
+pub fn goals_are_refused_for_a_reason()
     ensures { GoalsRefused }
-{
-    0
-}
+{}
 
 // The same of goals, all of whose predicates the book has.
-pub fn goals_are_spelled() -> u8
+pub fn goals_are_spelled()
     ensures accepted { GoalsAccepted }
     ensures one { OneGoal }
-{
-    0
-}
+{}
 
 // The drive's book and goal, and faulty texts of each layer, are read as they should be.
-pub fn examples_stand() -> u8
+pub fn examples_stand()
     ensures { Examples }
-{
-    0
-}
+{}

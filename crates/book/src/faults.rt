@@ -8,7 +8,7 @@ use std::alloc::{AllocError, AllocFailed};
 use words::faults::LetterFault;
 
 // A fault of the letters; a word that the grammar bars, or the end; a limit passed.
-#[derive(Clone, Copy)]
+#[derive(Clone, Copy, Debug, PartialEq, Eq)]
 pub enum GrammarFault {
     Letter(LetterFault),
     Barred(usize),
@@ -17,7 +17,7 @@ pub enum GrammarFault {
 
 // A fault of the grammar; a variable in no head; a rule's name used before; a variable in a goal; a goal's predicate that the book lacks;
 // want of memory.
-#[derive(Clone, Copy)]
+#[derive(Clone, Copy, Debug, PartialEq, Eq)]
 pub enum BookFault {
     Grammar(GrammarFault),
     Unbound(usize),
@@ -27,7 +27,7 @@ pub enum BookFault {
     Memory,
 }
 
-#[derive(Clone, Copy)]
+#[derive(Clone, Copy, Debug, PartialEq, Eq)]
 pub enum Layer {
     Letters,
     Grammar,

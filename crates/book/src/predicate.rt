@@ -5,7 +5,7 @@ use words::name::Name;
 
 pub mod numbering;
 
-#[derive(Clone, Copy)]
+#[derive(Clone, Copy, Debug, PartialEq, Eq)]
 pub struct Predicate {
     pub name: Name,
     pub arity: u8,

@@ -5,46 +5,34 @@ ghost use Rattle.cells.specs.Settles.{Settles};
 use crate::kind::Kind;
 
 // Theorem: bounds 1 to 5 asked whether they differ from 6 say yes, and from 3 no.
-pub fn bounds_differ() -> u8
+pub fn bounds_differ()
     ensures { AskedOfBounds }
-{
-    0
-}
+{}
 
 // Theorem: of the whole set, 2 members are at least 62.
-pub fn two_are_left() -> u8
+pub fn two_are_left()
     ensures { TwoLeft }
-{
-    0
-}
+{}
 
 // Theorem: bounds 1 to 5, told something that just none satisfies, and something that just one does.
-pub fn edges_of_bounds() -> u8
+pub fn edges_of_bounds()
     ensures { EdgesOfBounds }
-{
-    0
-}
+{}
 
 // Theorem: the same of the set of 3 and 5.
-pub fn edges_of_sets() -> u8
+pub fn edges_of_sets()
     ensures { EdgesOfSets }
-{
-    0
-}
+{}
 
 // Theorem, for every kind: what was told stays so.
-pub fn telling_settles<K: Kind>() -> u8
+pub fn telling_settles<K: Kind>()
     ensures { Settles K.Kind.content K.Kind.narrowed K.Kind.asked }
-{
-    0
-}
+{}
 
 // Theorem: the constants are the ends that the kinds' laws speak of.
-pub fn constants_are_the_ends() -> u8
+pub fn constants_are_the_ends()
     ensures bounds_lowest { ⟦<crate::bounds::Bounds as Kind>⟧.LOWEST ≡ negsuc 999999999 }
     ensures bounds_highest { ⟦<crate::bounds::Bounds as Kind>⟧.HIGHEST ≡ pos 1000000000 }
     ensures sets_lowest { ⟦<crate::sets::Sets as Kind>⟧.LOWEST ≡ pos 0 }
     ensures sets_highest { ⟦<crate::sets::Sets as Kind>⟧.HIGHEST ≡ pos 63 }
-{
-    0
-}
+{}

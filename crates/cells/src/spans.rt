@@ -4,7 +4,7 @@ ghost use Rattle.cells.specs.Spans.{span, raised, lowered, within, all_satisfy};
 use crate::relations::{Relation, Telling};
 
 // All numbers from `low` to `high`.
-#[derive(Clone, Copy)]
+#[derive(Clone, Copy, Debug, PartialEq, Eq)]
 pub struct Span {
     pub low: i32,
     pub high: i32,

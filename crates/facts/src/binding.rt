@@ -6,7 +6,7 @@ mod values;
 use crate::value::Value;
 
 // The values of at most six variables, by their numbers; none while a variable has no value.
-#[derive(Clone, Copy)]
+#[derive(Clone, Copy, Debug, PartialEq, Eq)]
 pub struct Bindings {
     values: [Option<Value>; 6],
     ghost six: { length values ≡ 6 },

@@ -4,7 +4,7 @@ ghost use Rattle.facts.specs.Views.{cause};
 ghost use Rattle.steps.specs.State.{cause_number};
 
 // Why a branch breaks.
-#[derive(Clone, Copy)]
+#[derive(Clone, Copy, Debug, PartialEq, Eq)]
 pub enum Cause {
     // A cell in a body's sum, or on the right of a told comparison.
     CellForNumber,
@@ -34,7 +34,7 @@ impl Cause {
 }
 
 // How a branch ends.
-#[derive(Clone, Copy)]
+#[derive(Clone, Copy, Debug, PartialEq, Eq)]
 pub enum End {
     Answer,
     Failed,
@@ -42,7 +42,7 @@ pub enum End {
 }
 
 // What the machine stands at: on a branch, at a choice of so many alternatives, or at a leaf.
-#[derive(Clone, Copy)]
+#[derive(Clone, Copy, Debug, PartialEq, Eq)]
 pub enum Standing {
     Branch,
     Choice(u8),

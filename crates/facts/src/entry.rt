@@ -7,7 +7,7 @@ use parse::few::Few;
 use parse::number::Number;
 
 // What the machine is to do next, from the top of its stack downwards.
-#[derive(Clone, Copy)]
+#[derive(Clone, Copy, Debug, PartialEq, Eq)]
 pub enum Entry {
     // A fact to add.
     Add(Fact),
@@ -25,7 +25,7 @@ pub enum Entry {
 }
 
 // A rule that fired, and the identifiers of its heads' facts in the order written.
-#[derive(Clone, Copy)]
+#[derive(Clone, Copy, Debug, PartialEq, Eq)]
 pub struct Firing {
     pub rule: u8,
     pub identifiers: Few<u16>,

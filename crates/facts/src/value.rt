@@ -6,7 +6,7 @@ ghost use Rattle.steps.specs.Matching.{same_value};
 use parse::number::{Cell, Number};
 
 // An argument of a fact: a number, or one of the cells.
-#[derive(Clone, Copy)]
+#[derive(Clone, Copy, Debug, PartialEq, Eq)]
 pub enum Value {
     Number(Number),
     Cell(Cell),

@@ -4,7 +4,7 @@ ghost use Rattle.groups.specs.Groups.{groups, value, written};
 ghost use Rattle.groups.specs.Reading.{bits_of, fault_number, fault_place, run, read_at, Within};
 
 // How many bits a number may have.
-#[derive(Clone, Copy, PartialEq, Debug)]
+#[derive(Clone, Copy, Debug, PartialEq, Eq)]
 pub enum Width {
     Bits32,
     Bits64,
@@ -23,7 +23,7 @@ impl Width {
 }
 
 // Why there is no number: it is cut short, or its groups are not the shortest or too wide; with the place of its first byte.
-#[derive(Clone, Copy, PartialEq, Debug)]
+#[derive(Clone, Copy, Debug, PartialEq, Eq)]
 pub enum NumberFault {
     Short(usize),
     Shape(usize),

@@ -3,7 +3,7 @@ use parse::token::Token;
 use words::faults::LetterFault;
 
 // A text ends at its last byte, whose number of bytes is told, or at a fault of its letters.
-#[derive(Clone, Copy)]
+#[derive(Clone, Copy, Debug, PartialEq, Eq)]
 pub enum Ending {
     Clean(usize),
     Faulty(LetterFault),

@@ -21,18 +21,14 @@ pub fn tokens(heap: Global, text: &[u8]) -> Result<Tokens, AllocError>
 }
 
 // No word of a text is missed: what is read from a place on is the word there and what is read from where it ends.
-pub fn words_come_one_by_one() -> u8
+pub fn words_come_one_by_one()
     ensures { WordByWord }
-{
-    0
-}
+{}
 
 // The words of a text are as they are written: none is marked before the rules of look-ahead are applied.
-pub fn words_come_unmarked() -> u8
+pub fn words_come_unmarked()
     ensures { Unmarked }
-{
-    0
-}
+{}
 
 #[cfg(test)]
 mod tests {

@@ -2,7 +2,7 @@
 ghost use Rattle.std.specs.Prelude.{◌≡◌, ◌-◌, ◌≤◌, [], ◌∷◌, ◌++◌, length, take};
 ghost use Rattle.parse.specs.Fews.{few_items};
 
-#[derive(Clone, Copy)]
+#[derive(Clone, Copy, Debug, PartialEq, Eq)]
 pub enum Few<T> {
     Zero,
     One(T),
@@ -11,7 +11,7 @@ pub enum Few<T> {
 }
 
 // For how many there is room, at most three.
-#[derive(Clone, Copy)]
+#[derive(Clone, Copy, Debug, PartialEq, Eq)]
 pub struct Room {
     pub left: u8,
     ghost few: { left ≤ 3 },

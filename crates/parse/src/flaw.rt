@@ -4,7 +4,7 @@ ghost use Rattle.parse.specs.declared.flaw.Flaw.TheVariants.{Memory};
 
 use std::alloc::{AllocError, AllocFailed};
 
-#[derive(Clone, Copy)]
+#[derive(Clone, Copy, Debug, PartialEq, Eq)]
 pub enum Flaw {
     // the grammar bars the word, or the end
     Barred(usize),

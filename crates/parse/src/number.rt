@@ -4,7 +4,7 @@ ghost use Rattle.std.specs.Prelude.{◌≡◌, ◌<◌, ◌≤◌, pos, negsuc, 
 use words::count::Count;
 
 // A whole number within 1,000,000,000 either way.
-#[derive(Clone, Copy)]
+#[derive(Clone, Copy, Debug, PartialEq, Eq)]
 pub struct Number {
     pub value: i32,
     ghost low: { negsuc 999999999 ≤ℤ value },
@@ -30,21 +30,21 @@ impl Number {
 }
 
 // One of the 32 cells.
-#[derive(Clone, Copy)]
+#[derive(Clone, Copy, Debug, PartialEq, Eq)]
 pub struct Cell {
     pub index: u8,
     ghost few: { index < 32 },
 }
 
 // One of a rule's six variables at most, by its first appearance.
-#[derive(Clone, Copy)]
+#[derive(Clone, Copy, Debug, PartialEq, Eq)]
 pub struct Variable {
     pub index: u8,
     ghost few: { index < 6 },
 }
 
 // The weight of an alternative, at most 1,000.
-#[derive(Clone, Copy)]
+#[derive(Clone, Copy, Debug, PartialEq, Eq)]
 pub struct Weight {
     pub value: u16,
     ghost light: { value ≤ 1000 },

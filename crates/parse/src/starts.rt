@@ -10,7 +10,7 @@ use crate::leaf::look;
 use crate::token::{Lexeme, Sign, Token};
 
 // A part of which there may be one too many.
-#[derive(Clone, Copy)]
+#[derive(Clone, Copy, Debug, PartialEq, Eq)]
 pub enum Part {
     Term,
     Item,

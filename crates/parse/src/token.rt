@@ -3,7 +3,7 @@
 use words::count::Count;
 use words::name::Name;
 
-#[derive(Clone, Copy)]
+#[derive(Clone, Copy, Debug, PartialEq, Eq)]
 pub enum Sign {
     At,
     Comma,
@@ -32,7 +32,7 @@ pub enum Sign {
     Fail,
 }
 
-#[derive(Clone, Copy)]
+#[derive(Clone, Copy, Debug, PartialEq, Eq)]
 pub enum Lexeme {
     Name(Name),
     Variable(Name),
@@ -42,7 +42,7 @@ pub enum Lexeme {
 }
 
 // A word, with the place of its first byte.
-#[derive(Clone, Copy)]
+#[derive(Clone, Copy, Debug, PartialEq, Eq)]
 pub struct Token {
     pub place: usize,
     pub lexeme: Lexeme,

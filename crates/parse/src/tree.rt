@@ -6,7 +6,7 @@ use cells::relations::{Relation, Telling};
 use words::name::Name;
 
 // A side of a comparison, or an argument of a fact.
-#[derive(Clone, Copy)]
+#[derive(Clone, Copy, Debug, PartialEq, Eq)]
 pub enum Term {
     Number(Number),
     Cell(Cell),
@@ -15,7 +15,7 @@ pub enum Term {
 }
 
 // A comparison of a guard.
-#[derive(Clone, Copy)]
+#[derive(Clone, Copy, Debug, PartialEq, Eq)]
 pub struct Asking {
     pub left: Term,
     pub relation: Relation,
@@ -23,7 +23,7 @@ pub struct Asking {
 }
 
 // A comparison of a body.
-#[derive(Clone, Copy)]
+#[derive(Clone, Copy, Debug, PartialEq, Eq)]
 pub struct Tell {
     pub left: Term,
     pub telling: Telling,
@@ -31,14 +31,14 @@ pub struct Tell {
 }
 
 // A fact by its name, which stands at a place of the text.
-#[derive(Clone, Copy)]
+#[derive(Clone, Copy, Debug, PartialEq, Eq)]
 pub struct Mention {
     pub place: usize,
     pub name: Name,
     pub arguments: Few<Term>,
 }
 
-#[derive(Clone, Copy)]
+#[derive(Clone, Copy, Debug, PartialEq, Eq)]
 pub enum Item {
     Add(Mention),
     Tell(Tell),

@@ -1,6 +1,6 @@
 // Cases in a file: a line `@ NAME L1 L2`, then two parts of that many bytes, each with a line feed behind it.
 
-#[derive(Clone, Copy)]
+#[derive(Clone, Copy, Debug, PartialEq, Eq)]
 pub struct Case<'a> {
     pub name: &'a [u8],
     pub input: &'a [u8],

@@ -4,7 +4,7 @@ use facts::fact::Stored;
 use parse::number::Cell;
 
 // One change, with all that redoing and undoing it takes.
-#[derive(Clone, Copy)]
+#[derive(Clone, Copy, Debug, PartialEq, Eq)]
 pub enum Change {
     // A fact entered the store.
     Added(Stored),

@@ -4,7 +4,7 @@ ghost use Rattle.std.specs.Prelude.{◌≡◌, length};
 mod moves;
 
 // The contents of the 32 cells.
-#[derive(Clone, Copy)]
+#[derive(Clone, Copy, Debug, PartialEq, Eq)]
 pub struct Cells {
     contents: [u64; 32],
     ghost long: { length contents ≡ 32 },

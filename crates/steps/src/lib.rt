@@ -7,29 +7,21 @@ ghost use Rattle.steps.specs.Points.{Points};
 ghost use Rattle.steps.specs.Walk.{Computed};
 
 // The worked drive, the empty goal, a propagation and a book that only grows: the steps of their edges and where they stand.
-pub fn examples_stand() -> u8
+pub fn examples_stand()
     ensures { Examples }
-{
-    0
-}
+{}
 
 // Walks with cells, woken facts and choices, and with each cause of a broken branch.
-pub fn cases_stand() -> u8
+pub fn cases_stand()
     ensures { Cases }
-{
-    0
-}
+{}
 
 // Small walks, each for one point of the steps.
-pub fn points_stand() -> u8
+pub fn points_stand()
     ensures { Points }
-{
-    0
-}
+{}
 
 // A walk computed along a path is the straight walk, at a choice or an end.
-pub fn walks_are_computed() -> u8
+pub fn walks_are_computed()
     ensures { Computed }
-{
-    0
-}
+{}

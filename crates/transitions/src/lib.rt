@@ -13,71 +13,51 @@ ghost use Rattle.transitions.specs.Derivations.{WalksByTransitions};
 ghost use Rattle.transitions.specs.Texts.{TextsFit};
 
 // Bounds and sets are kinds that the theorems speak of.
-pub fn both_kinds_lawful() -> u8
+pub fn both_kinds_lawful()
     ensures { BothLawful }
-{
-    0
-}
+{}
 
 // The variables of every book that is read are among 6.
-pub fn books_fit() -> u8
+pub fn books_fit()
     ensures { BooksFit }
-{
-    0
-}
+{}
 
 // From a state within the limits there is exactly one transition, the computed step.
-pub fn one_transition() -> u8
+pub fn one_transition()
     ensures { OneTransition }
-{
-    0
-}
+{}
 
 // Every state of a walk is within the limits; on a branch something is on its stack.
-pub fn walks_stay_sound() -> u8
+pub fn walks_stay_sound()
     ensures { Soundness }
-{
-    0
-}
+{}
 
 // The walks are the derivations by transitions.
-pub fn walks_by_transitions() -> u8
+pub fn walks_by_transitions()
     ensures { WalksByTransitions }
-{
-    0
-}
+{}
 
 // A goal without variables, and with numbers within the limit, starts with its items in their order.
-pub fn plain_goals_start() -> u8
+pub fn plain_goals_start()
     ensures { PlainStarts }
-{
-    0
-}
+{}
 
 // A transition that alters neither store, cells nor history lowers the load of the stack.
-pub fn quiet_steps_end() -> u8
+pub fn quiet_steps_end()
     ensures { Measure }
-{
-    0
-}
+{}
 
 // Every state of a walk mentions only its 32 cells, and at most 12,672 steps in a row alter nothing but the stack.
-pub fn walks_know_their_cells() -> u8
+pub fn walks_know_their_cells()
     ensures { CellsKnown }
-{
-    0
-}
+{}
 
 // Books and goals that are accepted keep to what the theorems ask of programs and goals.
-pub fn accepted_texts_fit() -> u8
+pub fn accepted_texts_fit()
     ensures { TextsFit }
-{
-    0
-}
+{}
 
 // For every accepted book and goal: the start, the one transition, the derivations, the limits and the measure, with nothing more asked.
-pub fn accepted_walks() -> u8
+pub fn accepted_walks()
     ensures { AcceptedWalks }
-{
-    0
-}
+{}

@@ -4,7 +4,7 @@ ghost use Rattle.words.specs.Faults.{letter_number, letter_place};
 ghost use Rattle.words.specs.declared.faults.LetterFault.TheVariants.{TextTooLong};
 
 // The text is longer than its limit; a byte begins no word; a word is too long or a number too large.
-#[derive(Clone, Copy)]
+#[derive(Clone, Copy, Debug, PartialEq, Eq)]
 pub enum LetterFault {
     TextTooLong(usize),
     NoWord(usize),

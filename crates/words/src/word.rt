@@ -3,7 +3,7 @@ use crate::count::Count;
 use crate::marks::Mark;
 use crate::name::Name;
 
-#[derive(Clone, Copy)]
+#[derive(Clone, Copy, Debug, PartialEq, Eq)]
 pub enum What {
     Name(Name),
     Variable(Name),
@@ -12,7 +12,7 @@ pub enum What {
 }
 
 // A word, with the place of its first byte.
-#[derive(Clone, Copy)]
+#[derive(Clone, Copy, Debug, PartialEq, Eq)]
 pub struct Word {
     pub place: usize,
     pub what: What,
