@@ -11,8 +11,7 @@ use Rattle.parse.specs.declared.flaw.Flaw.{Flaw}
 use Rattle.parse.specs.declared.flaw.Flaw.TheVariants as flaw
 use Rattle.parse.specs.Flaws.{flawed_at, Faulted}
 use Rattle.parse.specs.Rules.{Rule}
-use Rattle.lexed.specs.declared.text.Ending.{Ending}
-use Rattle.lexed.specs.declared.text.Ending.TheVariants.{Clean, Faulty}
+use Rattle.lexed.specs.Texts.{Ending}
 use Rattle.parse.specs.Tokens.{words}
 use Rattle.lexed.specs.Texts.{places, text_words, raw_words, word_places}
 use Rattle.book.specs.declared.faults.BookFault.{BookFault}
@@ -85,12 +84,12 @@ module _ {X Y : Type 0} (k : X → Verdict Y) (ps : List ℕ) (end : Ending) (ws
 -- all words were read
 module _ {X Y : Type 0} (k : X → Verdict Y) (ps : List ℕ) (x : X) (o : Out X) (whole : o ≡ ok x []) where
   pub end_fault : (end : Ending) (d : GrammarFault) → BarredEnd end (Err d) → judged k ps end o ≡ refused (refusal_of (Grammar d))
-  end_fault (Clean n) d h = absurd h
-  end_fault (Faulty e) d h = ap (judged k ps (Faulty e)) whole ∙ ap (λ y. refused (refusal_of (Grammar y))) (sym h)
+  end_fault (Ok n) d h = absurd h
+  end_fault (Err e) d h = ap (judged k ps (Err e)) whole ∙ ap (λ y. refused (refusal_of (Grammar y))) (sym h)
 
   pub end_clean : (end : Ending) (m : ℕ) → BarredEnd end (Ok m) → judged k ps end o ≡ k x
-  end_clean (Clean n) m h = ap (judged k ps (Clean n)) whole
-  end_clean (Faulty e) m h = absurd h
+  end_clean (Ok n) m h = ap (judged k ps (Ok n)) whole
+  end_clean (Err e) m h = absurd h
 
 -- a text within its limit, by the tokens of the code
 pub within : {X Y : Type 0} (k : X → Verdict Y) (most : ℕ) (read : List W → Out X) (text : List ℕ) (ps : List ℕ) (end : Ending) (ws : List W) → length text ≤ most → ps ≡ word_places text → end ≡ (text_words text).1 → ws ≡ marked (raw_words text) → judged_text k most read text ≡ judged k ps end (read ws)
@@ -128,5 +127,5 @@ pub as_many : (ts us : List Token) → us ≡ ts → length (places ts) ≡ leng
 as_many ts us e = places_length ts ∙ ap length (sym e) ∙ sym (words_length us)
 
 pub ended_by : (end : Ending) (e : GrammarFault) → AtEnd end e → end_refusal end ≡ refusal_of (Grammar e)
-ended_by (Clean n) e h = ap (λ x. refusal_of (Grammar x)) (sym h)
-ended_by (Faulty l) e h = ap (λ x. refusal_of (Grammar x)) (sym h)
+ended_by (Ok n) e h = ap (λ x. refusal_of (Grammar x)) (sym h)
+ended_by (Err l) e h = ap (λ x. refusal_of (Grammar x)) (sym h)

@@ -2,8 +2,7 @@
 use Rattle.std.specs.Prelude.{◌≡◌, ℕ, ◌<◌, ◌≤◌, true, false, List, length, Ok, Err, Result, nat_lt, slice_index}
 use Rattle.words.specs.declared.faults.LetterFault.{LetterFault}
 use Rattle.words.specs.declared.faults.LetterFault.TheVariants.{TextTooLong}
-use Rattle.lexed.specs.declared.text.Ending.{Ending}
-use Rattle.lexed.specs.declared.text.Ending.TheVariants.{Clean, Faulty}
+use Rattle.lexed.specs.Texts.{Ending}
 use Rattle.book.specs.declared.faults.GrammarFault.{GrammarFault}
 use Rattle.book.specs.declared.faults.GrammarFault.TheVariants.{Letter, Barred}
 use Rattle.book.specs.declared.faults.BookFault.TheVariants.{Grammar}
@@ -11,22 +10,22 @@ use Rattle.book.specs.Reading.{end_refusal, refusal_of}
 
 -- the text's length, or the fault of letters that ends it
 abbrev pub Ended : Ending → Result ℕ LetterFault → Type 0
-Ended (Clean n) (Ok m) = m ≡ n
-Ended (Clean n) (Err d) = ⊥
-Ended (Faulty e) (Ok m) = ⊥
-Ended (Faulty e) (Err d) = d ≡ e
+Ended (Ok n) (Ok m) = m ≡ n
+Ended (Ok n) (Err d) = ⊥
+Ended (Err e) (Ok m) = ⊥
+Ended (Err e) (Err d) = d ≡ e
 
 -- the same in the grammar's layer
 abbrev pub BarredEnd : Ending → Result ℕ GrammarFault → Type 0
-BarredEnd (Clean n) (Ok m) = m ≡ n
-BarredEnd (Clean n) (Err d) = ⊥
-BarredEnd (Faulty e) (Ok m) = ⊥
-BarredEnd (Faulty e) (Err d) = d ≡ Letter e
+BarredEnd (Ok n) (Ok m) = m ≡ n
+BarredEnd (Ok n) (Err d) = ⊥
+BarredEnd (Err e) (Ok m) = ⊥
+BarredEnd (Err e) (Err d) = d ≡ Letter e
 
 -- the fault of words that end too early
 abbrev pub AtEnd : Ending → GrammarFault → Type 0
-AtEnd (Clean n) r = r ≡ Barred n
-AtEnd (Faulty e) r = r ≡ Letter e
+AtEnd (Ok n) r = r ≡ Barred n
+AtEnd (Err e) r = r ≡ Letter e
 
 -- a text within its limit, or the fault at the limit
 abbrev pub FitsWithin : ℕ → ℕ → Result (Unit {0}) GrammarFault → Type 0

@@ -1,7 +1,8 @@
 -- The words of a text, as the grammar knows them before any is marked. Assumes nothing.
-use Rattle.std.specs.Prelude.{◌≡◌, ℕ, zero, suc, cond, List, [], ◌∷◌, map, length}
+use Rattle.std.specs.Prelude.{◌≡◌, ℕ, zero, suc, cond, List, [], ◌∷◌, map, length, Ok, Err, Result}
 use Rattle.words.specs.declared.marks.Mark.{Mark}
 use Rattle.words.specs.declared.marks.Mark.TheVariants as mark
+use Rattle.words.specs.declared.faults.LetterFault.{LetterFault}
 use Rattle.words.specs.declared.faults.LetterFault.TheVariants.{NoWord, WordTooLong}
 use Rattle.words.specs.Lex.{Read, end, word, stray, long, word_at}
 use Rattle.words.specs.Lex as lex
@@ -11,8 +12,6 @@ use Rattle.syntax.specs.Marking.{Raw}
 use Rattle.syntax.specs.Grammar.{same_name, true_name, fail_name}
 use Rattle.parse.specs.declared.token.Token.{Token}
 use Rattle.parse.specs.Tokens.{token_word}
-use Rattle.lexed.specs.declared.text.Ending.{Ending}
-use Rattle.lexed.specs.declared.text.Ending.TheVariants.{Clean, Faulty}
 
 -- the grammar's code of a mark; an arrow is not yet known to have a guard
 abbrev pub mark_code : Mark → ℕ
@@ -49,6 +48,10 @@ raw_word p (lex.variable s) = var s
 raw_word p (lex.number n) = num n
 raw_word p (lex.sign m) = sign (mark_code m)
 
+-- how a text ends: at its last byte, whose number of bytes is told, or at a fault of its letters
+abbrev pub Ending : Type 0
+Ending = Result ℕ LetterFault
+
 -- the words of a text with their places, up to its end or its first fault
 abbrev pub Cut : Type 0
 Cut = List (ℕ × W) × Ending
@@ -58,14 +61,14 @@ before w c = (w ∷ c.0, c.1)
 
 -- what is met at a place, and the rest from where it ends
 abbrev pub met : List ℕ → (ℕ → Cut) → Read → Cut
-met text rest (end p) = ([], Clean (length text))
+met text rest (end p) = ([], Ok (length text))
 met text rest (word l s e) = before (s, raw_word s l) (rest e)
-met text rest (stray p s) = ([], Faulty (NoWord p))
-met text rest (long p s) = ([], Faulty (WordTooLong p))
+met text rest (stray p s) = ([], Err (NoWord p))
+met text rest (long p s) = ([], Err (WordTooLong p))
 
 -- at most so many words from a place on
 abbrev pub words_from : ℕ → List ℕ → ℕ → Cut
-words_from zero text at = ([], Clean (length text))
+words_from zero text at = ([], Ok (length text))
 words_from (suc k) text at = met text (words_from k text) (word_at text at)
 
 -- each word has a byte at least, so there are at most as many as bytes

@@ -1,11 +1,11 @@
 // Words as they come from a text, before any is marked.
-ghost use Rattle.std.specs.Prelude.{◌≡◌, ℕ, ◌+◌, ◌<◌, ◌≤◌, List, [], map, length, IfOk};
+ghost use Rattle.std.specs.Prelude.{◌≡◌, ℕ, ◌+◌, ◌<◌, ◌≤◌, List, [], map, length, Err, IfOk};
 ghost use Rattle.words.specs.Lex.{spells, faulted};
 ghost use Rattle.words.specs.Names.{name_bytes};
 ghost use Rattle.parse.specs.Tokens.{sign_code, lexeme_word};
 ghost use Rattle.lexed.specs.Texts.{Cut, mark_code, name_word, raw_word, placed, text_words, met};
 
-use crate::text::{Ending, Tokens};
+use crate::text::Tokens;
 use parse::token::{Lexeme, Sign, Token};
 use std::alloc::{AllocError, Global};
 use words::faults::LetterFault;
@@ -69,15 +69,13 @@ fn lexeme_of(what: What) -> Lexeme
     }
 }
 
-// How a text ends at a fault: no limit of its length is set here.
-fn ending_of(fault: LetterFault) -> Ending
-    ensures { (text : List ℕ) (rest : ℕ → Cut) (s : ℕ) → ([], result) ≡ met text rest (faulted fault s) }
+// The fault that ends a text: no limit of its length is set here.
+fn word_fault(fault: LetterFault) -> LetterFault
+    ensures { (text : List ℕ) (rest : ℕ → Cut) (s : ℕ) → ([], Err result) ≡ met text rest (faulted fault s) }
 {
     match fault {
-        LetterFault::NoWord(p) => Ending::Faulty(LetterFault::NoWord(p)),
-        LetterFault::TextTooLong(p) | LetterFault::WordTooLong(p) => Ending::Faulty(
-            LetterFault::WordTooLong(p),
-        ),
+        LetterFault::NoWord(p) => LetterFault::NoWord(p),
+        LetterFault::TextTooLong(p) | LetterFault::WordTooLong(p) => LetterFault::WordTooLong(p),
     }
 }
 
@@ -91,30 +89,21 @@ fn token_of(word: Word) -> Token
     }
 }
 
-// The words of a text up to its end or its first fault, none marked. Each takes a byte at least.
+// The words of a text up to its end or its first fault, none marked.
 pub fn collect(heap: Global, text: &[u8]) -> Result<Tokens, AllocError>
     ensures { IfOk result (λ t. (map placed t.list.items, t.ending) ≡ text_words text.now) }
 {
     let mut list = Vec::new(heap);
     let mut words = Words::new(text);
-    for _turn in 0..text.len() {
+    let ending = loop {
         let next = match words.next_word() {
             Ok(next) => next,
-            Err(fault) => return Ok(Tokens {
-                list,
-                ending: ending_of(fault),
-            }),
+            Err(fault) => break Err(word_fault(fault)),
         };
         let Some(word) = next else {
-            return Ok(Tokens {
-                list,
-                ending: Ending::Clean(text.len()),
-            });
+            break Ok(text.len());
         };
         list.push(token_of(word))?;
-    }
-    Ok(Tokens {
-        list,
-        ending: Ending::Clean(text.len()),
-    })
+    };
+    Ok(Tokens { list, ending })
 }
