@@ -1,5 +1,5 @@
 -- What is claimed of the reading of texts, in the words of the grammar. Assumes nothing.
-use Rattle.std.specs.Prelude.{◌≡◌, ℕ, suc, ◌-◌, ◌<◌, ◌≤◌, ◌⊎◌, ◌↔◌, List, [], ◌∷◌, map, length, slice_index}
+use Rattle.std.specs.Prelude.{◌≡◌, ℕ, suc, ◌-◌, ◌<◌, ◌≤◌, ◌⊎◌, ◌↔◌, List, [], ◌∷◌, map, length, Ok, Err, slice_index}
 use Rattle.words.specs.declared.faults.LetterFault.{LetterFault}
 use Rattle.words.specs.Faults.{letter_number, letter_place}
 use Rattle.syntax.specs.Syntax.{W, Said, plain, Fine}
