@@ -11,7 +11,8 @@ use Rattle.words.specs.declared.marks.Mark.TheVariants as mark
 use Rattle.words.specs.declared.sorts.Sort.{Sort}
 use Rattle.words.specs.declared.sorts.Sort.TheVariants as sorts
 use Rattle.words.specs.Lex.{Lexeme, name, variable, number, Read, end, word, stray, long, value, fits, read_name, number_part, signed, by_sort, word_at}
-use Rattle.lexed.specs.Texts.{raw_word, before, met, words_from, turns, WordByWord}
+use Rattle.parse.specs.Raw.{raw_word}
+use Rattle.lexed.specs.Texts.{before, met, words_from, turns, WordByWord}
 
 -- a word ends behind a place
 abbrev Moves : ℕ → Read → Type 0

@@ -7,7 +7,9 @@ use Rattle.words.specs.declared.faults.LetterFault.{LetterFault}
 use Rattle.syntax.specs.Syntax.{W}
 use Rattle.parse.specs.declared.token.Token.{Token}
 use Rattle.parse.specs.Tokens.{words}
-use Rattle.lexed.specs.Texts.{Cut, Ending, raw_word, met, words_at, text_words, placed, places}
+use Rattle.parse.specs.Raw.{raw_word}
+use Rattle.parse.specs.Raw.{placed}
+use Rattle.lexed.specs.Texts.{Cut, Ending, met, words_at, text_words, places}
 use Rattle.lexed.proofs.Advance.{ends_behind, word_by_word}
 
 -- words that were read, and what is left

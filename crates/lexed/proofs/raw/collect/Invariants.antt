@@ -1,5 +1,5 @@
 use Rattle.std.proofs.Common.{◌≡◌, ◌-◌, map, length, vec_items}
-use Rattle.lexed.specs.Texts.{placed}
+use Rattle.parse.specs.Raw.{placed}
 use Rattle.lexed.proofs.Turns.{Reading}
 use Rattle.lexed.proofs.raw.collect.Given as goal
 
