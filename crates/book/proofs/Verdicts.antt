@@ -14,6 +14,7 @@ use Rattle.std.specs.declared.alloc.Global.{Global}
 use Rattle.syntax.specs.Tree as tree
 use Rattle.parse.specs.declared.tree.Rule.{Rule as CodeRule}
 use Rattle.parse.specs.declared.tree.Item.{Item as CodeItem}
+use Rattle.parse.specs.declared.tree.Mention.{Mention as CodeMention}
 use Rattle.parse.specs.Model.{item}
 use Rattle.parse.specs.Flat.{content_of}
 use Rattle.parse.specs.Rules.{Rule, rule_view, rule_model}
@@ -97,14 +98,14 @@ Reads Is ws (Err f) o = Faulted ws f o
 abbrev pub AreRules : Vec CodeRule Global → List tree.Rule → Type 0
 AreRules v y = map rule_model y ≡ map rule_view (vec_items v)
 
-abbrev pub AreItems : Vec CodeItem Global → tree.Content → Type 0
+abbrev pub AreItems : Vec (CodeItem CodeMention) Global → tree.Content → Type 0
 AreItems v y = content_of [] y ≡ map item (vec_items v)
 
 pub rules_read : (ws : List W) (r : Result (Vec CodeRule Global) Flaw) (o : Out (List tree.Rule)) → BookTold ws r o → Reads AreRules ws r o
 rules_read ws (Ok v) o h = h
 rules_read ws (Err f) o h = h
 
-pub items_read : (ws : List W) (r : Result (Vec CodeItem Global) Flaw) (o : Out tree.Content) → GoalTold ws r o → Reads AreItems ws r o
+pub items_read : (ws : List W) (r : Result (Vec (CodeItem CodeMention) Global) Flaw) (o : Out tree.Content) → GoalTold ws r o → Reads AreItems ws r o
 items_read ws (Ok v) o h = h
 items_read ws (Err f) o h = h
 

@@ -36,7 +36,7 @@ returns-in_err-items c =
     (refuses_as e opened (told_refused AreItems (goal_meaning ps) (places (vec_items t.list)) (words ts) (as_many (vec_items t.list) ts c.deref.ensures.value) (read_goal (words ts)) t.ending c.goal.result e (items_read (words ts) c.goal.result (read_goal (words ts)) c.goal.ensures) c.in_err-items.ensures))
 
 -- the items are those of the text, and what is left is to look for a predicate that the book lacks
-itemized : (ps : List Predicate) (text : List ℕ) (t : Tokens) (ts : List Token) (said : Result (Vec CodeItem Global) Flaw) (v : Vec CodeItem Global) (items : List CodeItem) (facts : Vec CodeMention Global) (listed : List CodeMention) → ts ≡ vec_items t.list → WordsTold text 1024 (Ok t) → GoalTold (words ts) said (read_goal (words ts)) → Told (places (vec_items t.list)) t.ending said (Ok v) → items ≡ vec_items v → map mention (vec_items facts) ≡ in_items (map item items) → listed ≡ vec_items facts → goal_of ps text ≡ with_known (map item (vec_items v)) (unknowns ps (map mention listed))
+itemized : (ps : List Predicate) (text : List ℕ) (t : Tokens) (ts : List Token) (said : Result (Vec (CodeItem CodeMention) Global) Flaw) (v : Vec (CodeItem CodeMention) Global) (items : List (CodeItem CodeMention)) (facts : Vec CodeMention Global) (listed : List CodeMention) → ts ≡ vec_items t.list → WordsTold text 1024 (Ok t) → GoalTold (words ts) said (read_goal (words ts)) → Told (places (vec_items t.list)) t.ending said (Ok v) → items ≡ vec_items v → map mention (vec_items facts) ≡ in_items (map item items) → listed ≡ vec_items facts → goal_of ps text ≡ with_known (map item (vec_items v)) (unknowns ps (map mention listed))
 unfolding goal_of
 itemized ps text t ts said v items facts listed e held b told r f l =
     let ws = words ts in
