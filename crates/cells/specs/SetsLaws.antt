@@ -16,7 +16,7 @@ use Rattle.cells.specs.Relations.{holds, meets}
 use Rattle.cells.specs.Laws.{between, tally, Ends, Fits64, Inhabited, Confined, Extensional, Entire, Leaves, Narrows, Answers, First, Last, Counts}
 use Rattle.cells.specs.Spans.{span, raised, lowered, all_satisfy}
 use Rattle.cells.specs.Sets.{bit, is_set, set_member, window, some_bits, set_within, set_narrowed, lowest_bit, highest_bit, set_asked, set_least, set_greatest, set_counted}
-use Rattle.cells.specs.SpanLaws.{clipped, all_said, raised_above, ends_some}
+use Rattle.cells.specs.SpanLaws.{clipped, raised_above, asked_by_ends, least_by_ends, greatest_by_ends, ends_some}
 use Rattle.cells.specs.Tallies.{tally_same, tally_none}
 use Rattle.cells.specs.Bitwise.{bits_same, bit_of_and, bit_window, bit_beyond, trailing_bit, leading_bit, all_ones, tally_bits}
 
@@ -157,27 +157,18 @@ narrows c t n = at (is_set c) refl
 
 -- ---- asking, the ends and the count
 
+-- a member lies between the least and the greatest
+spanned : (c : ℕ) (v : ℤ) → set_member c v ≡ true → (is_set c ≡ true) × (pos (lowest_bit c) ≤ℤ v) × (v ≤ℤ pos (highest_bit c))
+spanned c v m = let e = (inside c v m).0 in let p = amid c e v m in (e, p.0, p.1)
+
 pub answers : Answers set_member set_asked
-answers c r n = at (is_set c) refl
-  where
-    at : (b : Bool) → is_set c ≡ b
-        → Decides (cond b (all_satisfy (pos (lowest_bit c)) (pos (highest_bit c)) (set_member c n) r n) true) ((v : ℤ) → set_member c v ≡ true → holds r v n ≡ true)
-    at true e = all_said (set_member c) (pos (lowest_bit c)) (pos (highest_bit c)) (has_low c e) (has_high c e) (amid c e) r n
-    at false e = ((λ _ v m. absurd (true≢false (sym (inside c v m).0 ∙ e))), λ _. refl)
+answers = asked_by_ends is_set set_member (λ c. pos (lowest_bit c)) (λ c. pos (highest_bit c)) set_member has_low has_high spanned (λ c n e. refl)
 
 pub leasts : (c : ℕ) → First is_set set_member c (set_least c)
-leasts c = at (is_set c) refl
-  where
-    at : (b : Bool) → is_set c ≡ b → First is_set set_member c (cond b (Some (pos (lowest_bit c))) None)
-    at true e = (has_low c e, λ w m. (amid c e w m).0)
-    at false e = e
+leasts = least_by_ends is_set set_member (λ c. pos (lowest_bit c)) (λ c. pos (highest_bit c)) set_member has_low has_high spanned (λ c n e. refl)
 
 pub greatests : (c : ℕ) → Last is_set set_member c (set_greatest c)
-greatests c = at (is_set c) refl
-  where
-    at : (b : Bool) → is_set c ≡ b → Last is_set set_member c (cond b (Some (pos (highest_bit c))) None)
-    at true e = (has_high c e, λ w m. (amid c e w m).1)
-    at false e = e
+greatests = greatest_by_ends is_set set_member (λ c. pos (lowest_bit c)) (λ c. pos (highest_bit c)) set_member has_low has_high spanned (λ c n e. refl)
 
 pub counts : Counts (pos 0) (pos 63) set_member set_counted
 counts c = at (is_set c) refl
