@@ -1,8 +1,8 @@
 use Rattle.std.proofs.Common.{◌≡◌, ◌∙◌, ap, arith}
-use Rattle.rulebook.specs.Rows.{slice}
-use Rattle.rulebook.proofs.Listing.{none_at_0, copied_row, row_at}
 use Rattle.steps.specs.Program.{occurrences}
+use Rattle.rulebook.specs.Rows.{slice}
 use Rattle.rulebook.specs.Tables.{program}
+use Rattle.rulebook.proofs.Listing.{none_at_0, row_at}
 use Rattle.rulebook.proofs.settled.Book.occurrence.Goals as goal
 
 pub returns-in_err-checked_sub-clause-found : goal.returns-in_err-checked_sub-clause-found
@@ -12,11 +12,9 @@ returns-in_err-checked_sub-clause-found c =
 
 pub returns : goal.returns
 returns c =
-    let w =
-    row_at c.args.self.now c.args.predicate.index c.args.predicate.few c.index-span.result.now c.index-span.result.now c.part.result.now
-    (rw (← c.from.ensures) c.index-span.ensures)
-    (c.part.ensures ∙ ap (λ z. slice z c.index-span.result.now) c.deref.ensures.value)
-    c.args.number c.from-place.result (omega (arith, c.in_ok-checked_sub.ensures))
-    c.copied.result (c.copied.ensures ∙ copied_row c.part.result.now c.from-place.result c.get.result c.get.ensures.lookup)
+    let row =
+    row_at c.args.self.now c.args.predicate.index c.args.predicate.few c.index-span.result.now (rw (← c.from.ensures) c.index-span.ensures)
+    c.part.result.now (c.part.ensures ∙ ap (λ z. slice z c.index-span.result.now) c.deref.ensures.value)
+    _ _ _ c.get.ensures.lookup c.copied.ensures c.args.number (omega (arith, c.in_ok-checked_sub.ensures))
     in
-    record { found = w.0; few = w.1 }
+    record { found = row.0; few = row.1 }
