@@ -84,7 +84,7 @@ fn item(page: &mut Page, names: &[Name], item: Item) -> Result<(), AllocError> {
             names,
             Asking {
                 left: tell.left,
-                relation: tell.telling.relation(),
+                relation: Relation::from(tell.telling),
                 right: tell.right,
             },
         ),

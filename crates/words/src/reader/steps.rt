@@ -63,7 +63,7 @@ impl<'a> Words<'a> {
         self.text.get(place).copied().unwrap_or(0)
     }
 
-    // The word that begins here.
+    // The word that begins here; the reader then stands behind it, and at a fault before it. So it does after its parts.
     fn word(&mut self) -> Result<What, LetterFault>
         ensures same { self.new.text ≡ self.old.text }
         ensures read { seen_as spells result self.old.at self.new.at ≡ by_sort (sort (slice_index self.old.text.now self.old.at)) self.old.text.now self.old.at }
