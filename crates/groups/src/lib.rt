@@ -5,7 +5,7 @@ mod arguments;
 mod laws;
 mod numbers;
 
-pub use arguments::{Argument, argument_of, code_of};
+pub use arguments::{Argument, NoArgument};
 pub use laws::{
     accepts_groups, arguments_come_back, codes_come_back, comes_back, one_shortest, placed,
     reads_exactly, replaces, samples, too_wide,
@@ -51,10 +51,10 @@ mod tests {
 
     #[test]
     fn codes(rt: HostRuntime) {
-        assert_eq!(rt; code_of(Argument::Number(-1)), 2);
-        assert_eq!(rt; code_of(Argument::Number(7)), 28);
-        assert_eq!(rt; argument_of(63), Some(Argument::Cell(31)));
-        assert_eq!(rt; argument_of(65), None);
-        assert_eq!(rt; argument_of(2), Some(Argument::Number(-1)));
+        assert_eq!(rt; u64::from(Argument::Number(-1)), 2);
+        assert_eq!(rt; u64::from(Argument::Number(7)), 28);
+        assert_eq!(rt; Argument::try_from(63), Ok(Argument::Cell(31)));
+        assert_eq!(rt; Argument::try_from(65), Err(NoArgument));
+        assert_eq!(rt; Argument::try_from(2), Ok(Argument::Number(-1)));
     }
 }
