@@ -1,5 +1,5 @@
 -- Reading is the one outcome that the bytes at a place have. Assumes nothing.
-use Rattle.std.proofs.Common.{◌≡◌, ℕ, zero, suc, ◌+◌, ◌-◌, ◌^◌, ◌<◌, ◌≤◌, min, leb, ◌⊎◌, List, [], ◌∷◌, ◌++◌, length, get_or, take, drop, Ok, Err, Result, sym, refl, ap, ◌∙◌, subst, inl, inr, ⊎_elim, arith}
+use Rattle.std.proofs.Common.{◌≡◌, ℕ, zero, suc, ◌+◌, ◌-◌, ◌^◌, ◌<◌, ◌≤◌, min, leb, ◌⊎◌, List, [], ◌∷◌, ◌++◌, length, get_or, take, drop, Some, None, Ok, Err, Result, sym, refl, ap, ◌∙◌, subst, inl, inr, ⊎_elim, add-one, arith}
 use Rattle.std.specs.List.{prefix_len}
 use Rattle.std.proofs.lemmas.List.{length-drop, length-append, length-take-le, get_or-drop, get_or-take, take-append-drop, take_at, drop_at, drop-drop}
 use Rattle.std.proofs.lemmas.Bool.{le-leb, lt-leb, cond-true, cond-false, cases_lt}
@@ -7,7 +7,7 @@ use Rattle.std.proofs.lemmas.Bool.Decides.{nat_tests}
 use Rattle.groups.specs.declared.numbers.NumberFault.{NumberFault}
 use Rattle.groups.specs.declared.numbers.NumberFault.TheVariants.{Short, Shape}
 use Rattle.groups.specs.Groups.{groups, value, high, Formed, last, more, Stands, written}
-use Rattle.groups.specs.Reading.{run, taken, read_at, Within}
+use Rattle.groups.specs.Reading.{run, number_in, taken, read_at, Within}
 use Rattle.groups.specs.Laws.{Bytes, Cut, Outcome, whole, short, misshapen, ReadsExactly, AcceptsGroups, ComesBack, TooWide, Placed, Samples}
 use Rattle.groups.proofs.Shapes.{formed_groups, value_groups, only, length_formed, mono_groups, end_of, end_at, exact, one_too_many}
 use Rattle.groups.proofs.Writing.{stands_written}
@@ -198,56 +198,19 @@ pub reads_front : (bytes : List ℕ) (at bits : ℕ) → at + run bytes at < len
 unfolding read_at front
 reads_front bytes at bits h = cond-false (leb (length bytes) (at + run bytes at)) _ _ (lt-leb (length bytes) (at + run bytes at) h)
 
--- `last` is the place of the last group, `top` the greatest number of the width
-module _ (bytes : List ℕ) (at bits last top : ℕ) (byte : Bytes bytes) (is_last : last ≡ at + run bytes at) (is-top : top + 1 ≡ 2 ^ bits) (inside : last < length bytes) where
-  within_run : at + run bytes at < length bytes
-  within_run = omega arith
-
-  pub part_is : take (last + 1 - at) (drop at bytes) ≡ front bytes at
+-- what a reader finds in the bytes of a whole number
+module _ (bytes part : List ℕ) (at bits : ℕ) (inside : at + run bytes at < length bytes) (is_part : part ≡ take (run bytes at + 1) (drop at bytes)) where
+  reads_part : read_at bytes at bits ≡ taken part at bits
   unfolding front
-  part_is = let k : last + 1 - at ≡ suc (run bytes at) = omega arith in ap (λ n. take n (drop at bytes)) k
+  reads_part = reads_front bytes at bits inside ∙ ap (λ gs. taken gs at bits) (sym (rw add-one at is_part))
 
-  -- the last byte is the last group
-  end_is : (f : Formed (front bytes at)) → end_of f ≡ get_or bytes last 0
-  end_is f =
-      sym (end_at f (run bytes at) (sym (length_front bytes at within_run))) ∙ end_front bytes at ∙ ap (λ p. get_or bytes p 0) (sym is_last)
+  pub refuses_part : None ≡ number_in part bits → Err (Shape at) ≡ read_at bytes at bits
+  unfolding taken
+  refuses_part e = let t = reads_part in grind (arith, nat_tests)
 
-  -- more groups than the greatest number of the width has
-  pub refuses_many : length (groups top) ≤ last - at → Err (Shape at) ≡ read_at bytes at bits
-  refuses_many many =
-      let l = length_front bytes at within_run in
-      sym
-      (reads_front bytes at bits within_run
-      ∙ ⊎_elim
-      (λ fits. taken_long (front bytes at) at bits (λ e. let m = mono_groups top (value (front bytes at)) (omega arith) in omega arith))
-      (λ wide. taken_wide (front bytes at) at bits wide)
-      (cases_lt (value (front bytes at)) (2 ^ bits)))
-
-  -- a last group of 0 behind others
-  pub refuses_nought : at < last → get_or bytes last 0 ≡ 0 → Err (Shape at) ≡ read_at bytes at bits
-  refuses_nought some z =
-      let l = length_front bytes at within_run in
-      let f = formed_at bytes at byte within_run in
-      let m = one_too_many f (omega arith) (end_is f ∙ z) in
-      sym (reads_front bytes at bits within_run ∙ taken_long (front bytes at) at bits (λ h. omega arith))
-
-  pub refuses_wide : (n : ℕ) → n ≡ value (take (last + 1 - at) (drop at bytes)) → top < n → Err (Shape at) ≡ read_at bytes at bits
-  refuses_wide n e wide =
-      let v = e ∙ ap value part_is in
-      sym (reads_front bytes at bits within_run ∙ taken_wide (front bytes at) at bits (omega arith))
-
-  pub accepts : (n : ℕ) → n ≡ value (take (last + 1 - at) (drop at bytes)) → n ≤ top → (at < last → 0 < get_or bytes last 0) → Ok (n, last + 1) ≡ read_at bytes at bits
-  accepts n e fits some =
-      let v = e ∙ ap value part_is in
-      let l = length_front bytes at within_run in
-      let f = formed_at bytes at byte within_run in
-      let d = end_is f in
-      let p : at + length (front bytes at) ≡ last + 1 = omega arith in
-      sym
-      (reads_front bytes at bits within_run
-      ∙ taken_ok (front bytes at) at bits (omega arith) (exact f (λ h. let s = some (omega arith) in omega arith))
-      ∙ ap (λ x. Ok (value (front bytes at), x)) p
-      ∙ ap (λ x. Ok (x, last + 1)) (sym v))
+  pub accepts_part : (n : ℕ) → Some n ≡ number_in part bits → Ok (n, at + length part) ≡ read_at bytes at bits
+  unfolding taken
+  accepts_part n e = let t = reads_part in grind (arith, nat_tests)
 
 -- what is read fits and lies within the bytes
 within_taken : (gs bytes : List ℕ) (at bits : ℕ) → 0 < length gs → at + length gs ≤ length bytes → Within (taken gs at bits) bytes at bits

@@ -1,5 +1,7 @@
 -- The groups of a number are its one shortest form. Assumes nothing.
-use Rattle.std.proofs.Common.{◌≡◌, ℕ, zero, suc, ◌+◌, ◌*◌, ◌/◌, ◌%◌, ◌^◌, ◌<◌, ◌≤◌, ltb, ◌⊎◌, List, [], ◌∷◌, length, get_or, sym, refl, ap, ◌∙◌, subst, inl, inr, ⊎_elim, pow-suc, arith}
+use Rattle.std.proofs.Common.{◌≡◌, ℕ, zero, suc, ◌+◌, ◌*◌, ◌/◌, ◌%◌, ◌^◌, ◌<◌, ◌≤◌, max, ◌-◌, ltb, ◌⊎◌, List, [], ◌∷◌, length, get_or, reverse, drop, sym, refl, ap, ◌∙◌, subst, inl, inr, ⊎_elim, pow-suc, pow-add, arith}
+use native.Mathlib.Nat.{pow-le-pow_right}
+use Rattle.std.proofs.lemmas.List.{get_or-reverse, length-reverse, drop_all, drop_more}
 use Rattle.std.proofs.lemmas.Nat.{div_below}
 use Rattle.std.proofs.lemmas.Bool.{lt-ltb, le-ltb, cond-true, cond-false, cases_lt}
 use Rattle.groups.specs.Groups.{groups, groups_in, value, Formed, last, more}
@@ -119,6 +121,55 @@ length_groups (suc k) n a h =
     (λ p. omega (arith, ap length (groups_high n l), length_groups k (n / 128) p less))
     (zero_or k))
     (cases_lt n 128)
+
+-- a number whose highest bit is at a place has a group for each seven bits up to there
+length_log : (n k : ℕ) → 2 ^ k ≤ n → n < 2 * 2 ^ k → k / 7 + 1 ≡ length (groups n)
+length_log =
+    by_sevens (λ n. (k : ℕ) → 2 ^ k ≤ n → n < 2 * 2 ^ k → k / 7 + 1 ≡ length (groups n))
+    (λ n l k low high.
+    ⊎_elim
+    (λ few. omega (arith, ap length (groups_low n l)))
+    (λ many. absurd (let up : 2 ^ 7 ≤ 2 ^ k = pow-le-pow_right (omega arith) {i = 7} {j = k} many in omega arith))
+    (cases_lt k 7))
+    (λ n l up k low high.
+    ⊎_elim
+    (λ few. absurd (let up : 2 ^ k ≤ 2 ^ 6 = pow-le-pow_right (omega arith) {i = k} {j = 6} (omega arith) in omega arith))
+    (λ many.
+    let e : 2 ^ k ≡ 2 ^ (k - 7) * 2 ^ 7 = let i : k ≡ k - 7 + 7 = omega arith in ap (λ j. 2 ^ j) i ∙ pow-add 2 (k - 7) 7 in
+    omega (arith, ap length (groups_high n l), up (k - 7) (omega arith) (omega arith)))
+    (cases_lt k 7))
+
+pub length_log_max : (n m k : ℕ) → m ≡ max n 1 → 2 ^ k ≤ m → m < 2 * 2 ^ k → k / 7 + 1 ≡ length (groups n)
+unfolding groups
+length_log_max zero m k e low high = length_log 1 k (omega arith) (omega arith)
+length_log_max (suc n) m k e low high = length_log (suc n) k (omega arith) (omega arith)
+
+-- the number that the last groups of some stand for: none of them, and all
+pub value_none : (gs : List ℕ) → value (drop (length gs - 0) gs) ≡ 0
+value_none gs = ap value (drop_all (length gs - 0) gs (omega arith))
+
+pub value_whole : (gs : List ℕ) (k : ℕ) → k ≡ length gs → value gs ≡ value (drop (length gs - k) gs)
+value_whole gs k e = let z : 0 ≡ length gs - k = omega arith in ap (λ i. value (drop i gs)) z
+
+value_drop_le : (i : ℕ) (gs : List ℕ) → value (drop i gs) ≤ value gs
+value_drop_le zero gs = omega arith
+value_drop_le (suc i) [] = omega arith
+value_drop_le (suc i) (b ∷ bs) = omega (arith, value_drop_le i bs)
+
+-- one more group from the back
+pub value_turn : (gs : List ℕ) (k b n : ℕ) → (k < length (reverse gs)) × (b ≡ get_or (reverse gs) k b) → value (drop (length gs - k) gs) ≡ n → (value (drop (length gs - (k + 1)) gs) ≡ b % 128 + 128 * n) × (b % 128 + 128 * n ≤ value gs)
+value_turn gs k b n (below, e) all =
+    let within : k < length gs = omega (arith, length-reverse gs) in
+    let i = length gs - (k + 1) in
+    let j : length gs - 1 - k ≡ i = omega arith in
+    let g : b ≡ get_or gs i b = e ∙ get_or-reverse gs k b within ∙ ap (λ x. get_or gs x b) j in
+    let m : i + 1 ≡ length gs - k = omega arith in
+    let v =
+        ap value (drop_more gs i b (omega arith))
+        ∙ ap (λ x. x % 128 + 128 * value (drop (i + 1) gs)) (sym g)
+        ∙ ap (λ x. b % 128 + 128 * value (drop x gs)) m
+        ∙ ap (λ x. b % 128 + 128 * x) all in
+    (v, omega (arith, value_drop_le i gs))
 
 -- a greater number has no fewer groups
 pub mono_groups : (m n : ℕ) → n ≤ m → length (groups n) ≤ length (groups m)

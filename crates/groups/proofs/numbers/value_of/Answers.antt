@@ -1,26 +1,36 @@
-use Rattle.std.proofs.Common.{arith}
-use Rattle.groups.proofs.Writing.{scale_below, group_below, summed_more, summed_all}
+use Rattle.std.proofs.Common.{◌≡◌, ◌+◌, ◌*◌, ◌%◌, ◌-◌, sym, length, drop, ap, ◌∙◌, arith}
+use Rattle.std.proofs.lemmas.List.{length_push, length-reverse}
+use Rattle.std.proofs.lemmas.Bool.Decides.{nat_tests}
+use Rattle.std.proofs.lemmas.Iterator.Adapters.{YieldsList-from_rev_slice}
+use Rattle.std.proofs.lemmas.Iterator.Consumers.{YieldsList-turn, YieldsList-end}
+use Rattle.groups.specs.Groups.{value}
+use Rattle.groups.proofs.Shapes.{value_none, value_turn, value_whole}
 use Rattle.groups.proofs.numbers.value_of.Goals as goal
 
-pub overflow_mul-sum : goal.overflow_mul-sum
-overflow_mul-sum c =
-    let s = scale_below c.loop-b.b-index c.loop-b.scale (omega arith) c.loop-b.invariant.1 in
-    let g = group_below c.from.result c.loop-b.scale (omega arith) in
-    omega arith
-
-pub overflow_add-sum : goal.overflow_add-sum
-overflow_add-sum c =
-    let s = scale_below c.loop-b.b-index c.loop-b.scale (omega arith) c.loop-b.invariant.1 in
-    let g = group_below c.from.result c.loop-b.scale (omega arith) in
-    omega (arith, c.loop-b.invariant.0)
-
-pub overflow_mul-scale : goal.overflow_mul-scale
-overflow_mul-scale c =
-    let s = scale_below c.loop-b.b-index c.loop-b.scale (omega arith) c.loop-b.invariant.1 in omega arith
+pub loop-b-init : goal.loop-b-init
+loop-b-init c = record { so_far = value_none c.args.part.now; fits = omega arith }
 
 pub loop-b-preserved : goal.loop-b-preserved
 loop-b-preserved c =
-    summed_more c.args.part.now c.loop-b.b-index c.loop-b.sum c.loop-b.scale c.from.result (omega arith) c.from.ensures c.loop-b.invariant
+    let t = YieldsList-turn (YieldsList-from_rev_slice c.args.part.now cc) c.loop-b.yielded _ c.loop-b.yielded_by _ _ c.in-Some.b c.in-Some.is c.next.ensures.steps in
+    let s = value_turn _ _ _ _ t c.loop-b.invariant.so_far in
+    let e : c.in_ok-n.n ≡ c.in-Some.b.now % 128 + 128 * c.loop-b.n = omega (arith, c.in_ok-checked_mul.ensures, c.in_ok-n.ensures) in
+    record { so_far = ap (λ k. value (drop (length c.args.part.now - k) c.args.part.now)) (length_push c.loop-b.yielded c.in-Some.b) ∙ s.0 ∙ sym e; fits = omega (arith, c.in_ok-n.ensures) }
+
+pub returns-in_err-checked_mul : goal.returns-in_err-checked_mul
+returns-in_err-checked_mul c =
+    let t = YieldsList-turn (YieldsList-from_rev_slice c.args.part.now cc) c.loop-b.yielded _ c.loop-b.yielded_by _ _ c.in-Some.b c.in-Some.is c.next.ensures.steps in
+    let s = value_turn _ _ _ _ t c.loop-b.invariant.so_far in
+    grind (arith, nat_tests, s.1)
+
+pub returns-in_err-n : goal.returns-in_err-n
+returns-in_err-n c =
+    let t = YieldsList-turn (YieldsList-from_rev_slice c.args.part.now cc) c.loop-b.yielded _ c.loop-b.yielded_by _ _ c.in-Some.b c.in-Some.is c.next.ensures.steps in
+    let s = value_turn _ _ _ _ t c.loop-b.invariant.so_far in
+    grind (arith, nat_tests, s.1)
 
 pub returns : goal.returns
-returns c = summed_all c.args.part.now _ _ _ c.loop-b-test.false c.loop-b.invariant
+returns c =
+    let t = YieldsList-end (YieldsList-from_rev_slice c.args.part.now cc) c.loop-b.yielded _ c.loop-b.yielded_by _ _ c.in-None.is c.next.ensures.steps in
+    let e = value_whole c.args.part.now (length c.loop-b.yielded) (t.1 ∙ length-reverse c.args.part.now) ∙ c.loop-b.invariant.so_far in
+    grind (arith, nat_tests)
