@@ -1,5 +1,5 @@
 -- Reading a number of a given width at a place. Assumes nothing.
-use Rattle.std.specs.Prelude.{ℕ, suc, ◌+◌, ◌^◌, ◌<◌, ◌≤◌, min, cond, ◌&&◌, List, length, take, drop, Some, None, Option, Ok, Err, Result, ◌==◌, nat_le, nat_lt}
+use Rattle.std.specs.Prelude.{ℕ, suc, ◌+◌, ◌^◌, ◌<◌, ◌≤◌, min, cond, ◌&&◌, List, ◌++◌, codes, decimal, length, take, drop, Some, None, Option, Ok, Err, Result, ◌==◌, nat_le, nat_lt}
 use Rattle.std.specs.List.{prefix_len}
 use Rattle.groups.specs.declared.numbers.NumberFault.{NumberFault}
 use Rattle.groups.specs.declared.numbers.NumberFault.TheVariants.{Short, Shape}
@@ -14,6 +14,11 @@ fault_number (Shape p) = 20
 abbrev pub fault_place : NumberFault → ℕ
 fault_place (Short p) = p
 fault_place (Shape p) = p
+
+-- the refusal's text
+abbrev pub fault_text : NumberFault → List ℕ
+fault_text (Short p) = codes "the number at " ++ (decimal p ++ codes " is cut short")
+fault_text (Shape p) = codes "the number at " ++ (decimal p ++ codes " is not in its shortest groups or too wide")
 
 -- how many bytes with the top bit set stand from a place on
 abbrev pub run : List ℕ → ℕ → ℕ

@@ -3,9 +3,11 @@ ghost use Rattle.std.specs.Prelude.{◌≡◌, ℕ, ◌+◌, ◌-◌, ◌^◌, �
 ghost use Rattle.std.specs.List.{prefix_len};
 ghost use Rattle.std.proofs.Common.{lit≤};
 ghost use Rattle.groups.specs.Groups.{groups, high, value, written};
-ghost use Rattle.groups.specs.Reading.{fault_number, fault_place, number_in, run, read_as, read_at, Within};
+ghost use Rattle.groups.specs.Reading.{fault_number, fault_place, fault_text, number_in, run, read_as, read_at, Within};
 ghost use Rattle.groups.specs.Widths.{Fits, itself_fits};
 
+use std::error::Error;
+use std::fmt;
 use std::num::TryFromIntError;
 
 // A type of the numbers that fit some bits, at most 64.
@@ -69,6 +71,21 @@ impl NumberFault {
         }
     }
 }
+
+impl fmt::Display for NumberFault {
+    ghost output = { λ f. Some (fault_text f) };
+
+    fn fmt<W: fmt::Write>(&self, f: &mut fmt::Formatter<W>) -> fmt::Result {
+        match self {
+            NumberFault::Short(place) => write!(f, "the number at {place} is cut short"),
+            NumberFault::Shape(place) => {
+                write!(f, "the number at {place} is not in its shortest groups or too wide")
+            }
+        }
+    }
+}
+
+impl Error for NumberFault {}
 
 // How many groups a number has.
 pub fn width_of(n: u64) -> usize
