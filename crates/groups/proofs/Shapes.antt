@@ -1,8 +1,7 @@
 -- The groups of a number are its one shortest form. Assumes nothing.
 use Rattle.std.proofs.Common.{◌≡◌, ℕ, zero, suc, ◌+◌, ◌*◌, ◌/◌, ◌%◌, ◌^◌, ◌<◌, ◌≤◌, max, ◌-◌, ltb, ◌⊎◌, List, [], ◌∷◌, length, get_or, reverse, drop, sym, refl, ap, ◌∙◌, subst, inl, inr, ⊎_elim, pow-suc, pow-add, arith}
-use native.Mathlib.Nat.{pow-le-pow_right}
+use Rattle.std.proofs.Math.Nat.{pow-le-pow_right, eq-zero-or-pos}
 use Rattle.std.proofs.lemmas.List.{get_or-reverse, length-reverse, drop_all, drop_more}
-use Rattle.std.proofs.lemmas.Nat.{div_below}
 use Rattle.std.proofs.lemmas.Bool.{lt-ltb, le-ltb, cond-true, cond-false, cases_lt}
 use Rattle.groups.specs.Groups.{groups, groups_in, value, Formed, last, more}
 use Rattle.groups.specs.Laws.{OneShortest}
@@ -67,10 +66,6 @@ below_some m v h p =
     let r : (m + 128 * v) % 128 ≡ m = omega arith in
     groups_high (m + 128 * v) (omega arith) ∙ ap (λ x. (x + 128) ∷ groups ((m + 128 * v) / 128)) r ∙ ap (λ x. (m + 128) ∷ groups x) q
 
-zero_or : (v : ℕ) → (v ≡ 0) ⊎ (0 < v)
-zero_or zero = inl refl
-zero_or (suc v) = inr (omega arith)
-
 nought : (b v : ℕ) → v ≡ 0 → length (groups (b % 128 + 128 * v)) ≡ 1
 nought b v e = ap (λ x. length (groups (b % 128 + 128 * x))) e ∙ ap length (below_none (b % 128) (omega arith))
 
@@ -83,7 +78,7 @@ slim (more {b} {bs} high byte f) =
     ⊎_elim
     (λ e. omega (arith, nought b (value bs) e))
     (λ p. omega (arith, some b (value bs) p, slim f))
-    (zero_or (value bs))
+    (eq-zero-or-pos (value bs))
 
 pub only : {gs : List ℕ} → Formed gs → length gs ≡ length (groups (value gs)) → gs ≡ groups (value gs)
 only (last {b} h) e =
@@ -97,7 +92,7 @@ only (more {b} {bs} high byte f) e =
     let l : length bs ≡ length (groups (value bs)) = omega arith in
     let m : b % 128 + 128 ≡ b = omega arith in
     ap (λ t. b ∷ t) (only f l) ∙ ap (λ x. x ∷ groups (value bs)) (sym m) ∙ sym (below_some (b % 128) (value bs) (omega arith) p))
-    (zero_or (value bs))
+    (eq-zero-or-pos (value bs))
 
 pub one_shortest : OneShortest
 one_shortest n =
@@ -107,20 +102,6 @@ one_shortest n =
       fewest = λ gs f e. subst (λ m. length (groups m) ≤ length gs) e (slim f);
       only = λ gs f e l. only f (l ∙ ap (λ m. length (groups m)) (sym e)) ∙ ap groups e;
     }
-
--- a number below a power of 128 has no more groups than it says
-pub length_groups : (k n : ℕ) → 0 < k → n < 128 ^ k → length (groups n) ≤ k
-length_groups zero n a h = absurd (omega arith)
-length_groups (suc k) n a h =
-    ⊎_elim
-    (λ l. omega (arith, ap length (groups_low n l)))
-    (λ l.
-    let less : n / 128 < 128 ^ k = div_below n 128 (128 ^ k) (omega arith) (rw pow-suc at h) in
-    ⊎_elim
-    (λ z. absurd (let one : n / 128 < 1 = subst (λ j. n / 128 < 128 ^ j) z less in omega arith))
-    (λ p. omega (arith, ap length (groups_high n l), length_groups k (n / 128) p less))
-    (zero_or k))
-    (cases_lt n 128)
 
 -- a number whose highest bit is at a place has a group for each seven bits up to there
 length_log : (n k : ℕ) → 2 ^ k ≤ n → n < 2 * 2 ^ k → k / 7 + 1 ≡ length (groups n)
@@ -170,50 +151,3 @@ value_turn gs k b n (below, e) all =
         ∙ ap (λ x. b % 128 + 128 * value (drop x gs)) m
         ∙ ap (λ x. b % 128 + 128 * x) all in
     (v, omega (arith, value_drop_le i gs))
-
--- a greater number has no fewer groups
-pub mono_groups : (m n : ℕ) → n ≤ m → length (groups n) ≤ length (groups m)
-mono_groups =
-    by_sevens (λ m. (n : ℕ) → n ≤ m → length (groups n) ≤ length (groups m))
-    (λ m l n h. omega (arith, ap length (groups_low m l), ap length (groups_low n (omega arith))))
-    (λ m l up n h.
-    ⊎_elim
-    (λ s. omega (arith, ap length (groups_high m l), ap length (groups_low n s)))
-    (λ b. omega (arith, ap length (groups_high m l), ap length (groups_high n b), up (n / 128) (omega arith)))
-    (cases_lt n 128))
-
--- the last group
-pub end_of : {gs : List ℕ} → Formed gs → ℕ
-end_of (last {b} h) = b
-end_of (more a b f) = end_of f
-
-pub end_at : {gs : List ℕ} (f : Formed gs) (k : ℕ) → suc k ≡ length gs → get_or gs k 0 ≡ end_of f
-unfolding end_of
-end_at (last h) zero e = refl
-end_at (last h) (suc k) e = absurd (omega arith)
-end_at (more a b f) zero e = absurd (omega (arith, length_formed f))
-end_at (more a b f) (suc k) e = end_at f k (omega arith)
-
-positive : {gs : List ℕ} (f : Formed gs) → 0 < end_of f → 0 < value gs
-unfolding end_of
-positive (last h) p = omega arith
-positive (more a b f) p = omega (arith, positive f p)
-
--- a last group of 0 is one too many, any other makes the form the shortest
-pub exact : {gs : List ℕ} (f : Formed gs) → (1 < length gs → 0 < end_of f) → length (groups (value gs)) ≡ length gs
-unfolding end_of
-exact (last {b} h) p = nought b 0 refl
-exact (more {b} {bs} hi byte f) p =
-    let e = p (omega (arith, length_formed f)) in
-    some b (value bs) (positive f e) ∙ ap suc (exact f (λ _. e))
-
-pub one_too_many : {gs : List ℕ} (f : Formed gs) → 1 < length gs → end_of f ≡ 0 → length (groups (value gs)) < length gs
-unfolding end_of
-one_too_many (last h) l e = absurd (omega arith)
-one_too_many (more {b = b} hi byte (last {b = m} h)) l e =
-    let z : m % 128 + 128 * 0 ≡ 0 = omega arith in omega (arith, nought b (m % 128 + 128 * 0) z)
-one_too_many (more {b = b} hi byte (more {b = d} {bs = ds} hi' byte' f)) l e =
-    ⊎_elim
-    (λ z. omega (arith, nought b (value (d ∷ ds)) z))
-    (λ p. omega (arith, some b (value (d ∷ ds)) p, one_too_many (more {b = d} {bs = ds} hi' byte' f) (omega (arith, length_formed f)) e))
-    (zero_or (value (d ∷ ds)))

@@ -54,10 +54,3 @@ replaces out at bs h = parts bs out at h
 pub stands_written : (bs out : List ℕ) (at : ℕ) → at + length bs ≤ length out → Stands (written out at bs) at bs
 stands_written bs out at h =
     (drop (at + length bs) out, ap (drop at) (parts bs out at h) ∙ drop_at (take at out) (bs ++ drop (at + length bs) out) at (length-take-le at out (omega arith)))
-
--- writing two rows of bytes, one behind the other
-pub written_both : (cs bs out : List ℕ) (at : ℕ) → written out at (cs ++ bs) ≡ written (written out at cs) (at + length cs) bs
-written_both [] bs out at = let e : at ≡ at + 0 = omega arith in ap (λ k. written out k bs) e
-written_both (c ∷ cs) bs out at =
-    let e : at + 1 + length cs ≡ at + suc (length cs) = omega arith in
-    written_both cs bs (set out at c) (at + 1) ∙ ap (λ k. written (written (set out at c) (at + 1) cs) k bs) e
