@@ -8,7 +8,7 @@ use Rattle.std.proofs.lemmas.Bool.Decides.{nat_tests}
 use Rattle.groups.specs.declared.numbers.NumberFault.{NumberFault}
 use Rattle.groups.specs.declared.numbers.NumberFault.TheVariants.{Short, Shape}
 use Rattle.groups.specs.Groups.{groups, value, high, Formed, last, more, Stands, written}
-use Rattle.groups.specs.Reading.{run, number_in, taken, read_at, fault_place}
+use Rattle.groups.specs.Reading.{run, number_in, taken, read_at, read_as, fault_place}
 use Rattle.groups.specs.Laws.{Bytes, Cut, Outcome, whole, short, misshapen, ReadsExactly, AcceptsGroups, ComesBack, TooWide, Placed, Samples}
 use Rattle.groups.proofs.Shapes.{formed_groups, value_groups, only, length_formed}
 use Rattle.groups.proofs.Writing.{stands_written}
@@ -196,6 +196,11 @@ placed bytes at bits f e =
     (λ inside. omega (arith, placed_taken (front bytes at) at bits f (sym (reads_front bytes at bits inside) ∙ e)))
     (λ past. let s = reads_short bytes at bits past in let p : f ≡ Short (min at (length bytes)) = cc in omega (arith, ap fault_place p))
     (cases_lt (at + run bytes at) (length bytes))
+
+-- where a number stands for itself, what was read is the outcome
+pub itself_read : (r : Result (ℕ × ℕ) NumberFault) → read_as (λ n. n) r ≡ r
+itself_read (Ok x) = refl
+itself_read (Err f) = refl
 
 -- the samples, by computation
 pub samples : Samples
