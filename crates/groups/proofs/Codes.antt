@@ -1,10 +1,8 @@
 -- Arguments and their codes are each other's. Assumes nothing.
-use Rattle.std.proofs.Common.{◌≡◌, ℕ, suc, ◌+◌, ◌-◌, ◌*◌, ◌/◌, ◌%◌, ◌≤◌, pos, negsuc, arith}
+use Rattle.std.proofs.Common.{◌≤◌, pos, negsuc, arith}
 use Rattle.std.proofs.lemmas.Bool.Decides.{nat_tests}
 use Rattle.std.proofs.lemmas.Int.{ints}
-use Rattle.groups.specs.declared.arguments.Argument.{Argument}
 use Rattle.groups.specs.declared.arguments.Argument.TheVariants.{Number, Cell}
-use Rattle.groups.specs.Arguments.{code, argument, Lawful}
 use Rattle.groups.specs.Laws.{ArgumentsComeBack, CodesComeBack}
 
 pub arguments_come_back : ArgumentsComeBack

@@ -1,7 +1,7 @@
 -- Reading is the one outcome that the bytes at a place have. Assumes nothing.
-use Rattle.std.proofs.Common.{◌≡◌, ℕ, zero, suc, ◌+◌, ◌-◌, ◌^◌, ◌<◌, ◌≤◌, min, leb, ◌⊎◌, List, [], ◌∷◌, ◌++◌, length, get_or, take, drop, Some, None, Ok, Err, Result, sym, refl, ap, ◌∙◌, subst, inl, inr, ⊎_elim, add-one, arith}
+use Rattle.std.proofs.Common.{◌≡◌, ℕ, suc, ◌+◌, ◌-◌, ◌^◌, ◌<◌, ◌≤◌, min, leb, List, [], ◌∷◌, ◌++◌, length, get_or, take, drop, Some, None, Ok, Err, Result, sym, refl, ap, ◌∙◌, subst, ⊎_elim, add-one, arith}
 use Rattle.std.specs.List.{prefix_len}
-use Rattle.std.proofs.lemmas.List.{length-drop, length-append, length-take-le, get_or-drop, get_or-take, take-append-drop, take_at, drop_at, drop-drop}
+use Rattle.std.proofs.lemmas.List.{length-drop, length-append, get_or-drop, take-append-drop, take_at, drop_at, drop-drop}
 use Rattle.std.proofs.lemmas.Bool.{le-leb, lt-leb, cond-true, cond-false, leb-true, cases_lt, cases_eq}
 use Rattle.std.proofs.lemmas.List.Sums.{prefix_len_passes, prefix_len_is}
 use Rattle.std.proofs.lemmas.Bool.Decides.{nat_tests}
@@ -92,9 +92,9 @@ cut_run : (bytes : List ℕ) (at : ℕ) → Cut bytes at → length bytes ≤ at
 cut_run bytes at cut =
     let l = length-drop at bytes in
     let e =
-        prefix_len_is high (drop at bytes) (length (drop at bytes)) 0 (omega arith)
-        (λ k h. ap high (get_or-drop at bytes k 0) ∙ le-leb 128 _ (cut (at + k) (omega arith) (omega arith)))
-        (λ h. absurd (omega arith)) in
+    prefix_len_is high (drop at bytes) (length (drop at bytes)) 0 (omega arith)
+    (λ k h. ap high (get_or-drop at bytes k 0) ∙ le-leb 128 _ (cut (at + k) (omega arith) (omega arith)))
+    (λ h. absurd (omega arith)) in
     omega arith
 
 -- the two directions

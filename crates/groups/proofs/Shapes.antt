@@ -1,16 +1,23 @@
 -- The groups of a number are its one shortest form. Assumes nothing.
-use Rattle.std.proofs.Common.{◌≡◌, ℕ, zero, suc, ◌+◌, ◌*◌, ◌/◌, ◌%◌, ◌^◌, ◌<◌, ◌≤◌, max, ◌-◌, ltb, ◌⊎◌, List, [], ◌∷◌, length, get_or, reverse, drop, sym, refl, ap, ◌∙◌, subst, inl, inr, ⊎_elim, pow-suc, pow-add, arith}
+use Rattle.std.proofs.Common.{◌≡◌, ℕ, zero, suc, ◌+◌, ◌*◌, ◌/◌, ◌%◌, ◌^◌, ◌<◌, ◌≤◌, max, ◌-◌, Iter, Bor, Option, Some, ◌++◌, List, [], ◌∷◌, length, drop, sym, refl, ap, ◌∙◌, subst, ⊎_elim, pow-add, arith}
 use Rattle.std.proofs.Math.Nat.{pow-le-pow_right, eq-zero-or-pos}
-use Rattle.std.proofs.lemmas.List.{get_or-reverse, length-reverse, drop_all, drop_more}
-use Rattle.std.proofs.lemmas.Bool.{lt-ltb, le-ltb, cond-true, cond-false, cases_lt}
+use Rattle.std.proofs.lemmas.List.{get_or-reverse, length_push, length-reverse, drop_all, drop_more}
+use Rattle.std.proofs.lemmas.Bool.{cases_lt}
+use Rattle.std.proofs.lemmas.Bool.Decides.{nat_tests}
+use Rattle.std.proofs.lemmas.Iterator.Adapters.{YieldsList-from_rev_slice}
+use Rattle.std.proofs.lemmas.Iterator.Consumers.{YieldsList-turn}
+use Rattle.std.specs.Iterator.{Yields}
+use Rattle.std.specs.Iterator.Adapters.{rev_source, rev_steps}
+use Rattle.std.specs.Slice.Iter.{iter_rest, iter_steps_back}
+use Rattle.std.specs.declared.iter.Rev.{Rev}
 use Rattle.groups.specs.Groups.{groups, groups_in, value, Formed, last, more}
 use Rattle.groups.specs.Laws.{OneShortest}
 
 low_in : (k n : ℕ) → n < 128 → groups_in (suc k) n ≡ n ∷ []
-low_in k n h = cond-true (ltb n 128) _ _ (lt-ltb n 128 h)
+low_in k n h = grind (arith, nat_tests)
 
 high_in : (k n : ℕ) → 128 ≤ n → groups_in (suc k) n ≡ (n % 128 + 128) ∷ groups_in k (n / 128)
-high_in k n h = cond-false (ltb n 128) _ _ (le-ltb n 128 h)
+high_in k n h = grind (arith, nat_tests)
 
 -- more steps than the number takes add nothing
 enough : (j k n : ℕ) → n < j → n < k → groups_in j n ≡ groups_in k n
@@ -58,19 +65,19 @@ length_formed (more a b f) = omega arith
 
 -- the groups of a number with one more group put below
 pub below_none : (m : ℕ) → m < 128 → groups (m + 128 * 0) ≡ m ∷ []
-below_none m h = let e : m + 128 * 0 ≡ m = omega arith in ap groups e ∙ groups_low m h
+below_none m h = grind (arith, groups_low)
 
 pub below_some : (m v : ℕ) → m < 128 → 0 < v → groups (m + 128 * v) ≡ (m + 128) ∷ groups v
 below_some m v h p =
     let q : (m + 128 * v) / 128 ≡ v = omega arith in
     let r : (m + 128 * v) % 128 ≡ m = omega arith in
-    groups_high (m + 128 * v) (omega arith) ∙ ap (λ x. (x + 128) ∷ groups ((m + 128 * v) / 128)) r ∙ ap (λ x. (m + 128) ∷ groups x) q
+    grind (arith, groups_high)
 
 nought : (b v : ℕ) → v ≡ 0 → length (groups (b % 128 + 128 * v)) ≡ 1
-nought b v e = ap (λ x. length (groups (b % 128 + 128 * x))) e ∙ ap length (below_none (b % 128) (omega arith))
+nought b v e = grind (arith, groups_low)
 
 some : (b v : ℕ) → 0 < v → length (groups (b % 128 + 128 * v)) ≡ suc (length (groups v))
-some b v p = ap length (below_some (b % 128) v (omega arith) p)
+some b v p = grind (arith, below_some)
 
 pub slim : {gs : List ℕ} → Formed gs → length (groups (value gs)) ≤ length gs
 slim (last {b} h) = omega (arith, nought b 0 refl)
@@ -127,10 +134,10 @@ length_log_max (suc n) m k e low high = length_log (suc n) k (omega arith) (omeg
 
 -- the number that the last groups of some stand for: none of them, and all
 pub value_none : (gs : List ℕ) → value (drop (length gs - 0) gs) ≡ 0
-value_none gs = ap value (drop_all (length gs - 0) gs (omega arith))
+value_none gs = grind (arith, drop_all)
 
 pub value_whole : (gs : List ℕ) (k : ℕ) → k ≡ length gs → value gs ≡ value (drop (length gs - k) gs)
-value_whole gs k e = let z : 0 ≡ length gs - k = omega arith in ap (λ i. value (drop i gs)) z
+value_whole gs k e = grind arith
 
 value_drop_le : (i : ℕ) (gs : List ℕ) → value (drop i gs) ≤ value gs
 value_drop_le zero gs = omega arith
@@ -138,16 +145,11 @@ value_drop_le (suc i) [] = omega arith
 value_drop_le (suc i) (b ∷ bs) = omega (arith, value_drop_le i bs)
 
 -- one more group from the back
-pub value_turn : (gs : List ℕ) (k b n : ℕ) → (k < length (reverse gs)) × (b ≡ get_or (reverse gs) k b) → value (drop (length gs - k) gs) ≡ n → (value (drop (length gs - (k + 1)) gs) ≡ b % 128 + 128 * n) × (b % 128 + 128 * n ≤ value gs)
-value_turn gs k b n (below, e) all =
-    let within : k < length gs = omega (arith, length-reverse gs) in
-    let i = length gs - (k + 1) in
-    let j : length gs - 1 - k ≡ i = omega arith in
-    let g : b ≡ get_or gs i b = e ∙ get_or-reverse gs k b within ∙ ap (λ x. get_or gs x b) j in
-    let m : i + 1 ≡ length gs - k = omega arith in
-    let v =
-        ap value (drop_more gs i b (omega arith))
-        ∙ ap (λ x. x % 128 + 128 * value (drop (i + 1) gs)) (sym g)
-        ∙ ap (λ x. b % 128 + 128 * value (drop x gs)) m
-        ∙ ap (λ x. b % 128 + 128 * x) all in
-    (v, omega (arith, value_drop_le i gs))
+pub value_turn : (gs : List ℕ) (s t u : Rev (Iter ℕ)) → iter_rest (rev_source s) ≡ gs → (xs : List (Bor ℕ)) → Yields (rev_steps iter_steps_back) s xs t → (r : Option (Bor ℕ)) (b : Bor ℕ) → r ≡ Some b → rev_steps iter_steps_back t r u → (n : ℕ) → value (drop (length gs - length xs) gs) ≡ n → (value (drop (length gs - length (xs ++ (b ∷ []))) gs) ≡ b.now % 128 + 128 * n) × (b.now % 128 + 128 * n ≤ value gs)
+value_turn gs s t u rest xs yielded r b is steps n all =
+    let (below, e) = YieldsList-turn (YieldsList-from_rev_slice gs rest) xs _ yielded r _ b is steps in
+    let within : length xs < length gs = omega (arith, length-reverse gs) in
+    let d = drop_more gs (length gs - (length xs + 1)) b.now (omega arith) in
+    let l = value_drop_le (length gs - (length xs + 1)) gs in
+    let v : value (drop (length gs - (length xs + 1)) gs) ≡ b.now % 128 + 128 * n = grind (arith, get_or-reverse) in
+    (ap (λ k. value (drop (length gs - k) gs)) (length_push xs b) ∙ v, omega arith)

@@ -1,10 +1,10 @@
 -- Writing groups one by one. Assumes nothing.
-use Rattle.std.proofs.Common.{◌≡◌, ℕ, suc, ◌+◌, ◌*◌, ◌/◌, ◌%◌, ◌^◌, ◌<◌, ◌≤◌, List, [], ◌∷◌, ◌++◌, length, get_or, take, drop, set, sym, refl, ap, ◌∙◌, append_assoc, mul-le-mul_right, mul_assoc, mul_comm, pow-suc, mul-add, add-one, arith}
-use native.Mathlib.Nat.{pow-le-pow_right}
-use Rattle.std.proofs.lemmas.List.{length-set, length-drop, take_more, take_more_set, drop-set-lt, take-append-drop, drop_more, drop_all, drop_at, length-take-le}
-use Rattle.groups.specs.Groups.{groups, value, written, Stands}
+use Rattle.std.proofs.Common.{◌≡◌, ℕ, ◌+◌, ◌/◌, ◌%◌, ◌<◌, ◌≤◌, List, [], ◌∷◌, ◌++◌, length, get_or, take, drop, set, sym, refl, ap, ◌∙◌, append_assoc, add-one, arith}
+use Rattle.std.proofs.lemmas.List.{length-drop, take_more, take_more_set, drop_more, drop_at, length-take-le}
+use Rattle.std.proofs.lemmas.List.Edits.{sets, sets-eq}
+use Rattle.groups.specs.Groups.{groups, written, Stands}
 use Rattle.groups.specs.Laws.{Replaces}
-use Rattle.groups.proofs.Shapes.{groups_high, groups_low, formed_groups, length_formed}
+use Rattle.groups.proofs.Shapes.{groups_high, groups_low}
 
 -- the groups before a place are filled in, and those from there on are those of the rest
 pub record Filling (part : List ℕ) (n i rest : ℕ) : Type 0 where
@@ -31,26 +31,14 @@ fill_high part n i rest b e within sized high f =
     let h = filled part (groups n) (groups (rest / 128)) i b within (omega arith) f.before (f.behind (omega arith) ∙ groups_high rest high ∙ ap (λ x. x ∷ groups (rest / 128)) (sym e)) in
     record { before = h.0; behind = λ _. h.1 }
 
-pub length_written : (bs out : List ℕ) (at : ℕ) → length (written out at bs) ≡ length out
-length_written [] out at = refl
-length_written (b ∷ bs) out at = length_written bs (set out at b) (at + 1) ∙ length-set out at b
-
-parts : (bs out : List ℕ) (at : ℕ) → at + length bs ≤ length out → written out at bs ≡ take at out ++ (bs ++ drop (at + length bs) out)
-parts [] out at h =
-    let e : at + 0 ≡ at = omega arith in
-    sym (take-append-drop at out) ∙ ap (λ k. take at out ++ drop k out) (sym e)
-parts (b ∷ bs) out at h =
-    let e : at + 1 + length bs ≡ at + suc (length bs) = omega arith in
-    parts bs (set out at b) (at + 1) (omega (arith, length-set out at b))
-    ∙ ap (λ t. t ++ (bs ++ drop (at + 1 + length bs) (set out at b))) (take_more_set out at b (omega arith))
-    ∙ append_assoc (take at out) (b ∷ []) (bs ++ drop (at + 1 + length bs) (set out at b))
-    ∙ ap (λ t. take at out ++ (b ∷ (bs ++ t))) (drop-set-lt (at + 1 + length bs) out at b (omega arith))
-    ∙ ap (λ k. take at out ++ (b ∷ (bs ++ drop k out))) e
+written_sets : (bs out : List ℕ) (at : ℕ) → written out at bs ≡ sets out at bs
+written_sets [] out at = refl
+written_sets (b ∷ bs) out at = written_sets bs (set out at b) (at + 1) ∙ ap (λ k. sets (set out at b) k bs) (add-one at)
 
 pub replaces : Replaces
-replaces out at bs h = parts bs out at h
+replaces out at bs h = written_sets bs out at ∙ sets-eq bs out at h ∙ append_assoc (take at out) bs (drop (at + length bs) out)
 
 -- what was written stands there
 pub stands_written : (bs out : List ℕ) (at : ℕ) → at + length bs ≤ length out → Stands (written out at bs) at bs
 stands_written bs out at h =
-    (drop (at + length bs) out, ap (drop at) (parts bs out at h) ∙ drop_at (take at out) (bs ++ drop (at + length bs) out) at (length-take-le at out (omega arith)))
+    (drop (at + length bs) out, ap (drop at) (replaces out at bs h) ∙ drop_at (take at out) (bs ++ drop (at + length bs) out) at (length-take-le at out (omega arith)))

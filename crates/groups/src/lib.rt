@@ -39,10 +39,7 @@ mod tests {
 
     #[test]
     fn refuses(rt: HostRuntime) {
-        assert_eq!(rt;
-            read::<u32>(&[0x80, 0x00], 0),
-            Err(NumberFault::Shape(0))
-        );
+        assert_eq!(rt; read::<u32>(&[0x80, 0x00], 0), Err(NumberFault::Shape(0)));
         assert_eq!(rt; read::<u32>(&[0xff], 0), Err(NumberFault::Short(0)));
         assert_eq!(rt; read::<u64>(&[], 3), Err(NumberFault::Short(0)));
         assert_eq!(rt; NumberFault::Short(2).number(), 19);

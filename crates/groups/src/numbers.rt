@@ -79,7 +79,10 @@ impl fmt::Display for NumberFault {
         match self {
             NumberFault::Short(place) => write!(f, "the number at {place} is cut short"),
             NumberFault::Shape(place) => {
-                write!(f, "the number at {place} is not in its shortest groups or too wide")
+                write!(
+                    f,
+                    "the number at {place} is not in its shortest groups or too wide"
+                )
             }
         }
     }
@@ -101,7 +104,11 @@ fn fill(part: &mut [u8], n: u64)
 {
     let mut rest = n;
     for byte in part.iter_mut() {
-        *byte = if rest < 128 { rest as u8 } else { (rest % 128 + 128) as u8 };
+        *byte = if rest < 128 {
+            rest as u8
+        } else {
+            (rest % 128 + 128) as u8
+        };
         rest /= 128;
     }
 }

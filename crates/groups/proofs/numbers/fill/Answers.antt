@@ -1,7 +1,7 @@
 use Rattle.std.proofs.Common.{◌≡◌, sym, ◌∙◌, take, refl, arith}
 use Rattle.std.proofs.lemmas.List.{take_all}
 use Rattle.groups.specs.Groups.{groups}
-use Rattle.groups.proofs.Writing.{Filling, fill_low, fill_high}
+use Rattle.groups.proofs.Writing.{fill_low, fill_high}
 use Rattle.groups.proofs.numbers.fill.Goals as goal
 use Rattle.groups.proofs.numbers.fill.Goals.{then-rest-lt128, else-rest-lt128}
 
