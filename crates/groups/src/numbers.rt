@@ -10,17 +10,18 @@ use std::error::Error;
 use std::fmt;
 use std::num::TryFromIntError;
 
-// A type of the numbers that fit some bits, at most 64.
+// A type of the numbers that fit some bits.
 pub trait Whole: TryFrom<u64, Error = TryFromIntError> {
-    // How many bits a number may have.
+    // How many bits its numbers may have.
     ghost bits: { ℕ };
 
     // The number that a value is.
     ghost number: { Self → ℕ };
 
-    // A number is a value's exactly if it fits the bits.
+    // A number is converted exactly if it fits the bits.
     ghost fits: { (n : ℕ) (r : _) → Self.try_from_gives n r → Fits bits number n r };
 
+    // And none has more than 64 bits.
     ghost at_most_64: { bits ≤ 64 };
 }
 
