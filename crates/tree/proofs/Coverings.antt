@@ -7,7 +7,7 @@ use Rattle.std.proofs.lemmas.Bool.{cases_lt}
 use Rattle.tree.specs.Walks.{Path, Standing, branch, choice, leaf, Machine, Walks, Ends}
 use Rattle.tree.specs.Laws.{Covering}
 use Rattle.tree.proofs.Fronts.{no_end}
-use Rattle.tree.proofs.Counts.{delta, delta_none, delta_cases, times, times_append, children_push, push_nil, has_here, has_there, has_found, has_counts}
+use Rattle.tree.proofs.Counts.{delta, delta_none, delta_cases, times, times_append, children_push, push_nil, has_here, has_there, has_found, has_counts, has_times, times_has}
 use Rattle.tree.proofs.Tallies.{EndedEdge, Walked, children_at, all_children, paths, leaves_of, Tally}
 use Rattle.tree.proofs.Wholes.{once_from, Beyond, reach, once, edge_of_path, leaves_of_ends, leaves_of_times, leaves_of_has, all_children_push, all_children_nil}
 
@@ -19,15 +19,6 @@ snoc (j ∷ p) = go (snoc p)
     go : (p ≡ []) ⊎ ((q : Path) × (i : ℕ) × (p ≡ q ++ (i ∷ []))) → (◌≡◌ {A = Path} (j ∷ p) []) ⊎ ((q : Path) × (i : ℕ) × (j ∷ p ≡ q ++ (i ∷ [])))
     go (inl e) = inr ([], j, ap (λ (r : Path). j ∷ r) e)
     go (inr h) = inr (j ∷ h.0, h.1, ap (λ (r : Path). j ∷ r) h.2)
-
-has_times : (p : Path) (xs : List Path) → Has xs p → 1 ≤ times p xs
-has_times p xs h = let a = has_counts (λ (q : Path). q) p xs h in let b = ap (times p) (map-id xs) in omega arith
-
-times_has : (p : Path) (xs : List Path) → 1 ≤ times p xs → Has xs p
-times_has p xs h =
-    let b = ap (times p) (map-id xs) in
-    let f = has_found (λ (q : Path). q) p xs (omega arith) in
-    subst (Has xs) f.2 f.1
 
 module _ {E : Type 0} where
   -- an alternative of a choice that was met

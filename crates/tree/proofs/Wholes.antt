@@ -9,21 +9,13 @@ use Rattle.tree.specs.Walks.{Path, Standing, branch, choice, leaf, Machine, Stop
 use Rattle.tree.specs.Searches.{leaves_at}
 use Rattle.tree.specs.Laws.{Once, Complete}
 use Rattle.tree.proofs.Fronts.{one_edge}
-use Rattle.tree.proofs.Counts.{delta, delta_same, delta_none, times, times_append, children, children_nil, children_push, children_has, push_nil, has_here, has_there, has_nil, has_cases, has_found}
+use Rattle.tree.proofs.Counts.{delta, delta_same, delta_none, times, times_append, children, children_nil, children_push, children_has, push_nil, has_here, has_there, has_nil, has_cases, has_found, has_times}
 use Rattle.tree.proofs.Tallies.{EndedEdge, Walked, children_at, all_children, paths, leaves_of, steps_of, Tally}
 
 -- a list in which no path counts twice has none twice
 pub once_from : (xs : List Path) → ((p : Path) → times p xs ≤ 1) → Once xs
 once_from [] h = tt
-once_from (x ∷ xs) h = (λ a. let b = times-of x xs a in let c = h x in let d = delta_same x x refl in omega arith, once_from xs (λ p. let c = h p in omega arith))
-  where
-    times-of : (y : Path) (ys : List Path) → Has ys y → 1 ≤ times y ys
-    times-of y [] a = absurd (has_nil y a)
-    times-of y (z ∷ ys) a = go (has_cases z y ys a) (times-of y ys)
-      where
-        go : (z ≡ y) ⊎ Has ys y → (Has ys y → 1 ≤ times y ys) → 1 ≤ delta y z + times y ys
-        go (inl e) f = let s = delta_same y z (sym e) in omega arith
-        go (inr m) f = let s = f m in omega arith
+once_from (x ∷ xs) h = (λ a. let b = has_times x xs a in let c = h x in let d = delta_same x x refl in omega arith, once_from xs (λ p. let c = h p in omega arith))
 
 module _ {E : Type 0} where
   children_at_nil : (p : Path) (st : Standing E) → times [] (children_at p st) ≡ 0
