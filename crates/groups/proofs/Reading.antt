@@ -151,8 +151,8 @@ accepted bytes at bits r (whole m fits (rest, d)) n stop e =
       sym behind ∙ ap (λ k. at + length (groups k)) same,
       stands_behind (groups m) rest bytes at d ∙ ap (λ p. groups m ++ drop p bytes) behind ∙ ap (λ k. groups k ++ drop stop bytes) same,
     )
-accepted bytes at bits r (short cut) n stop e = let z : ◌≡◌ {A = ℕ} 0 1 = cc in absurd (omega arith)
-accepted bytes at bits r (misshapen gs f s none) n stop e = let z : ◌≡◌ {A = ℕ} 0 1 = cc in absurd (omega arith)
+accepted bytes at bits r (short cut) n stop e = cc
+accepted bytes at bits r (misshapen gs f s none) n stop e = cc
 
 pub accepts_groups : AcceptsGroups
 accepts_groups bytes at bits n stop byte e = accepted bytes at bits (read_at bytes at bits) (outcome bytes at bits byte) n stop e
