@@ -1,12 +1,12 @@
 -- Two lists in which no path stands twice and that have the same elements are shuffled.
-use Rattle.std.proofs.Common.{◌≡◌, ℕ, ◌+◌, ◌≤◌, ◌⊎◌, List, [], ◌∷◌, map, sym, refl, ap, ◌∙◌, subst, ⊎_elim, arith}
+use Rattle.std.proofs.Common.{◌≡◌, ℕ, ◌≤◌, List, [], ◌∷◌, map, sym, ap, ◌∙◌, subst, ⊎_elim, arith}
 use Rattle.std.specs.List.{ContainsAt as Has, remove}
 use Rattle.std.specs.List.Sorted.{IsPermutation}
 use Rattle.std.proofs.lemmas.List.Sorted.{IsPermutation-refl, IsPermutation-sym, IsPermutation-cons, IsPermutation-trans, IsPermutation-remove, sum_by-IsPermutation}
 use Rattle.std.proofs.ByRecursion.{has_shuffled}
 use Rattle.tree.specs.Walks.{Path, Machine}
 use Rattle.tree.specs.Laws.{Once, Complete}
-use Rattle.tree.proofs.Counts.{delta, delta_same, delta_cases, times, times_map_shuffled, has_here, has_there, has_nil, has_cases, has_counts, times_has}
+use Rattle.tree.proofs.Counts.{delta_same, delta_cases, times, times_map_shuffled, has_here, has_there, has_nil, has_cases, has_counts, times_has}
 use Rattle.std.proofs.lemmas.Bool.{cases_lt}
 
 to_front : {X : Type 0} (x : X) (ys : List X) → Has ys x → (zs : List X) × IsPermutation ys (x ∷ zs)
