@@ -1,7 +1,7 @@
 -- The groups of a number are its one shortest form. Assumes nothing.
 use Rattle.std.proofs.Common.{◌≡◌, ℕ, zero, suc, ◌+◌, ◌*◌, ◌/◌, ◌%◌, ◌^◌, ◌<◌, ◌≤◌, max, ◌-◌, Iter, Bor, Option, Some, ◌++◌, List, [], ◌∷◌, length, drop, sym, refl, ap, ◌∙◌, subst, ⊎_elim, pow-add, arith}
 use Rattle.std.proofs.Math.Nat.{pow-le-pow_right, eq-zero-or-pos}
-use Rattle.std.proofs.lemmas.List.{get_or-reverse, length_push, length-reverse, drop_all, drop_more}
+use Rattle.std.proofs.lemmas.List.{get_or-reverse, length_push, length-reverse, drop_more}
 use Rattle.std.proofs.lemmas.Bool.{cases_lt}
 use Rattle.std.proofs.lemmas.Bool.Decides.{nat_tests}
 use Rattle.std.proofs.lemmas.Iterator.Adapters.{YieldsList-from_rev_slice}
@@ -132,13 +132,7 @@ unfolding groups
 length_log_max zero m k e low high = length_log 1 k (omega arith) (omega arith)
 length_log_max (suc n) m k e low high = length_log (suc n) k (omega arith) (omega arith)
 
--- the number that the last groups of some stand for: none of them, and all
-pub value_none : (gs : List ℕ) → value (drop (length gs - 0) gs) ≡ 0
-value_none gs = grind (arith, drop_all)
-
-pub value_whole : (gs : List ℕ) (k : ℕ) → k ≡ length gs → value gs ≡ value (drop (length gs - k) gs)
-value_whole gs k e = grind arith
-
+-- the last groups of some stand for no more than all
 value_drop_le : (i : ℕ) (gs : List ℕ) → value (drop i gs) ≤ value gs
 value_drop_le zero gs = omega arith
 value_drop_le (suc i) [] = omega arith
