@@ -1,15 +1,16 @@
 -- Reading is the one outcome that the bytes at a place have. Assumes nothing.
-use Rattle.std.proofs.Common.{◌≡◌, ℕ, zero, suc, ◌+◌, ◌-◌, ◌^◌, ◌<◌, ◌≤◌, min, leb, ◌⊎◌, List, [], ◌∷◌, ◌++◌, length, get_or, take, drop, Ok, Err, Result, sym, refl, ap, ◌∙◌, subst, inl, inr, ⊎_elim, arith}
+use Rattle.std.proofs.Common.{◌≡◌, ℕ, suc, ◌+◌, ◌-◌, ◌^◌, ◌<◌, ◌≤◌, min, leb, List, [], ◌∷◌, ◌++◌, length, get_or, take, drop, Some, None, Ok, Err, Result, sym, refl, ap, ◌∙◌, subst, ⊎_elim, add-one, arith}
 use Rattle.std.specs.List.{prefix_len}
-use Rattle.std.proofs.lemmas.List.{length-drop, length-append, length-take-le, get_or-drop, get_or-take, take-append-drop, take_at, drop_at, drop-drop}
-use Rattle.std.proofs.lemmas.Bool.{le-leb, lt-leb, cond-true, cond-false, cases_lt}
+use Rattle.std.proofs.lemmas.List.{length-drop, length-append, get_or-drop, take-append-drop, take_at, drop_at, drop-drop}
+use Rattle.std.proofs.lemmas.Bool.{le-leb, lt-leb, cond-true, cond-false, leb-true, cases_lt, cases_eq}
+use Rattle.std.proofs.lemmas.List.Sums.{prefix_len_passes, prefix_len_is}
 use Rattle.std.proofs.lemmas.Bool.Decides.{nat_tests}
 use Rattle.groups.specs.declared.numbers.NumberFault.{NumberFault}
 use Rattle.groups.specs.declared.numbers.NumberFault.TheVariants.{Short, Shape}
 use Rattle.groups.specs.Groups.{groups, value, high, Formed, last, more, Stands, written}
-use Rattle.groups.specs.Reading.{run, taken, read_at, Within}
+use Rattle.groups.specs.Reading.{run, number_in, taken, read_at, read_as, fault_place}
 use Rattle.groups.specs.Laws.{Bytes, Cut, Outcome, whole, short, misshapen, ReadsExactly, AcceptsGroups, ComesBack, TooWide, Placed, Samples}
-use Rattle.groups.proofs.Shapes.{formed_groups, value_groups, only, length_formed, mono_groups, end_of, end_at, exact, one_too_many}
+use Rattle.groups.proofs.Shapes.{formed_groups, value_groups, only, length_formed}
 use Rattle.groups.proofs.Writing.{stands_written}
 
 run_high : (x : ℕ) (xs : List ℕ) → 128 ≤ x → prefix_len high (x ∷ xs) ≡ 1 + prefix_len high xs
@@ -36,23 +37,6 @@ run_formed (last {b} h) rest = ap suc (run_low b rest h)
 run_formed (more {b} {bs} hi byte f) rest =
     let e = run_high b (bs ++ rest) hi in
     let i = run_formed f rest in
-    omega arith
-
--- every byte of the run has its top bit set
-in_run : (xs : List ℕ) (i : ℕ) → i < prefix_len high xs → 128 ≤ get_or xs i 0
-in_run [] i h = absurd (omega arith)
-in_run (x ∷ xs) zero h = ⊎_elim (λ l. absurd (omega (arith, run_low x xs l))) (λ l. l) (cases_lt x 128)
-in_run (x ∷ xs) (suc i) h =
-    ⊎_elim
-    (λ l. absurd (omega (arith, run_low x xs l)))
-    (λ l. in_run xs i (omega (arith, run_high x xs l)))
-    (cases_lt x 128)
-
-run_all : (xs : List ℕ) → ((i : ℕ) → i < length xs → 128 ≤ get_or xs i 0) → prefix_len high xs ≡ length xs
-run_all [] h = refl
-run_all (x ∷ xs) h =
-    let e = run_high x xs (h 0 (omega arith)) in
-    let r = run_all xs (λ i l. h (suc i) (omega arith)) in
     omega arith
 
 -- what reading is where a number's bytes stand, and where there are none
@@ -101,16 +85,17 @@ formed_at bytes at byte h =
 cut_at : (bytes : List ℕ) (at : ℕ) → length bytes ≤ at + run bytes at → Cut bytes at
 cut_at bytes at h i from below =
     let k : at + (i - at) ≡ i = omega arith in
-    subst (λ b. 128 ≤ b) (get_or-drop at bytes (i - at) 0 ∙ ap (λ j. get_or bytes j 0) k) (in_run (drop at bytes) (i - at) (omega arith))
+    let t = prefix_len_passes high (drop at bytes) (i - at) 0 (omega arith) in
+    leb-true 128 _ (ap high (sym (get_or-drop at bytes (i - at) 0 ∙ ap (λ j. get_or bytes j 0) k)) ∙ t)
 
 cut_run : (bytes : List ℕ) (at : ℕ) → Cut bytes at → length bytes ≤ at + run bytes at
 cut_run bytes at cut =
     let l = length-drop at bytes in
-    let e = run_all (drop at bytes) (λ i h. subst (λ b. 128 ≤ b) (sym (get_or-drop at bytes i 0)) (cut (at + i) (omega arith) (omega arith))) in
+    let e =
+    prefix_len_is high (drop at bytes) (length (drop at bytes)) 0 (omega arith)
+    (λ k h. ap high (get_or-drop at bytes k 0) ∙ le-leb 128 _ (cut (at + k) (omega arith) (omega arith)))
+    (λ h. absurd (omega arith)) in
     omega arith
-
-same_or : (a b : ℕ) → (a ≡ b) ⊎ (a ≡ b → ⊥)
-same_or a b = ⊎_elim (λ l. inr (λ e. omega arith)) (λ l. ⊎_elim (λ m. inr (λ e. omega arith)) (λ m. inl (omega arith)) (cases_lt b a)) (cases_lt a b)
 
 -- the two directions
 outcome_formed : (gs bytes : List ℕ) (at bits : ℕ) → Formed gs → Stands bytes at gs → Outcome bytes at bits (read_at bytes at bits)
@@ -124,7 +109,7 @@ outcome_formed gs bytes at bits f s =
     subst (Outcome bytes at bits) (sym (e ∙ taken_ok gs at bits fits as-few ∙ ap (λ g. Ok (value gs, at + length g)) same)) (whole (value gs) fits (subst (Stands bytes at) same s)))
     (λ long.
     subst (Outcome bytes at bits) (sym (e ∙ taken_long gs at bits long)) (misshapen gs f s (λ n h g. long (sym (ap length (g ∙ ap groups (sym (value_groups n)) ∙ ap (λ t. groups (value t)) (sym g)))))))
-    (same_or (length (groups (value gs))) (length gs)))
+    (cases_eq (length (groups (value gs))) (length gs)))
     (λ wide.
     subst (Outcome bytes at bits) (sym (e ∙ taken_wide gs at bits wide)) (misshapen gs f s (λ n h g. let v = ap value g ∙ value_groups n in omega arith)))
     (cases_lt (value gs) (2 ^ bits))
@@ -166,15 +151,11 @@ accepted bytes at bits r (whole m fits (rest, d)) n stop e =
       sym behind ∙ ap (λ k. at + length (groups k)) same,
       stands_behind (groups m) rest bytes at d ∙ ap (λ p. groups m ++ drop p bytes) behind ∙ ap (λ k. groups k ++ drop stop bytes) same,
     )
-accepted bytes at bits r (short cut) n stop e = let z : ◌≡◌ {A = ℕ} 0 1 = cc in absurd (omega arith)
-accepted bytes at bits r (misshapen gs f s none) n stop e = let z : ◌≡◌ {A = ℕ} 0 1 = cc in absurd (omega arith)
+accepted bytes at bits r (short cut) n stop e = cc
+accepted bytes at bits r (misshapen gs f s none) n stop e = cc
 
 pub accepts_groups : AcceptsGroups
 accepts_groups bytes at bits n stop byte e = accepted bytes at bits (read_at bytes at bits) (outcome bytes at bits byte) n stop e
-
--- where a number's groups stand it is read
-pub reads_groups : (bytes : List ℕ) (at bits n : ℕ) → n < 2 ^ bits → Stands bytes at (groups n) → read_at bytes at bits ≡ Ok (n, at + length (groups n))
-reads_groups bytes at bits n fits s = given bytes at bits (Ok (n, at + length (groups n))) (whole n fits s)
 
 pub comes_back : ComesBack
 comes_back out at n bits fits room =
@@ -185,98 +166,41 @@ too_wide out at n bits wide room =
     given (written out at (groups n)) at bits (Err (Shape at))
     (misshapen (groups n) (formed_groups n) (stands_written (groups n) out at room) (λ m h e. let v = sym (value_groups n) ∙ ap value e ∙ value_groups m in omega arith))
 
--- what a reader finds at the front
-pub length_front : (bytes : List ℕ) (at : ℕ) → at + run bytes at < length bytes → length (front bytes at) ≡ suc (run bytes at)
-unfolding front
-length_front bytes at h = length-take-le (suc (run bytes at)) (drop at bytes) (omega (arith, length-drop at bytes))
-
-pub end_front : (bytes : List ℕ) (at : ℕ) → get_or (front bytes at) (run bytes at) 0 ≡ get_or bytes (at + run bytes at) 0
-unfolding front
-end_front bytes at = get_or-take (suc (run bytes at)) (drop at bytes) (run bytes at) 0 (omega arith) ∙ get_or-drop at bytes (run bytes at) 0
-
 pub reads_front : (bytes : List ℕ) (at bits : ℕ) → at + run bytes at < length bytes → read_at bytes at bits ≡ taken (front bytes at) at bits
 unfolding read_at front
 reads_front bytes at bits h = cond-false (leb (length bytes) (at + run bytes at)) _ _ (lt-leb (length bytes) (at + run bytes at) h)
 
--- `last` is the place of the last group, `top` the greatest number of the width
-module _ (bytes : List ℕ) (at bits last top : ℕ) (byte : Bytes bytes) (is_last : last ≡ at + run bytes at) (is-top : top + 1 ≡ 2 ^ bits) (inside : last < length bytes) where
-  within_run : at + run bytes at < length bytes
-  within_run = omega arith
-
-  pub part_is : take (last + 1 - at) (drop at bytes) ≡ front bytes at
+-- what a reader finds in the bytes of a whole number
+module _ (bytes part : List ℕ) (at bits : ℕ) (inside : at + run bytes at < length bytes) (is_part : part ≡ take (run bytes at + 1) (drop at bytes)) where
+  reads_part : read_at bytes at bits ≡ taken part at bits
   unfolding front
-  part_is = let k : last + 1 - at ≡ suc (run bytes at) = omega arith in ap (λ n. take n (drop at bytes)) k
+  reads_part = reads_front bytes at bits inside ∙ ap (λ gs. taken gs at bits) (sym (rw add-one at is_part))
 
-  -- the last byte is the last group
-  end_is : (f : Formed (front bytes at)) → end_of f ≡ get_or bytes last 0
-  end_is f =
-      sym (end_at f (run bytes at) (sym (length_front bytes at within_run))) ∙ end_front bytes at ∙ ap (λ p. get_or bytes p 0) (sym is_last)
+  pub refuses_part : None ≡ number_in part bits → Err (Shape at) ≡ read_at bytes at bits
+  unfolding taken
+  refuses_part e = let t = reads_part in grind (arith, nat_tests)
 
-  -- more groups than the greatest number of the width has
-  pub refuses_many : length (groups top) ≤ last - at → Err (Shape at) ≡ read_at bytes at bits
-  refuses_many many =
-      let l = length_front bytes at within_run in
-      sym
-      (reads_front bytes at bits within_run
-      ∙ ⊎_elim
-      (λ fits. taken_long (front bytes at) at bits (λ e. let m = mono_groups top (value (front bytes at)) (omega arith) in omega arith))
-      (λ wide. taken_wide (front bytes at) at bits wide)
-      (cases_lt (value (front bytes at)) (2 ^ bits)))
+  pub accepts_part : (n : ℕ) → Some n ≡ number_in part bits → Ok (n, at + length part) ≡ read_at bytes at bits
+  unfolding taken
+  accepts_part n e = let t = reads_part in grind (arith, nat_tests)
 
-  -- a last group of 0 behind others
-  pub refuses_nought : at < last → get_or bytes last 0 ≡ 0 → Err (Shape at) ≡ read_at bytes at bits
-  refuses_nought some z =
-      let l = length_front bytes at within_run in
-      let f = formed_at bytes at byte within_run in
-      let m = one_too_many f (omega arith) (end_is f ∙ z) in
-      sym (reads_front bytes at bits within_run ∙ taken_long (front bytes at) at bits (λ h. omega arith))
-
-  pub refuses_wide : (n : ℕ) → n ≡ value (take (last + 1 - at) (drop at bytes)) → top < n → Err (Shape at) ≡ read_at bytes at bits
-  refuses_wide n e wide =
-      let v = e ∙ ap value part_is in
-      sym (reads_front bytes at bits within_run ∙ taken_wide (front bytes at) at bits (omega arith))
-
-  pub accepts : (n : ℕ) → n ≡ value (take (last + 1 - at) (drop at bytes)) → n ≤ top → (at < last → 0 < get_or bytes last 0) → Ok (n, last + 1) ≡ read_at bytes at bits
-  accepts n e fits some =
-      let v = e ∙ ap value part_is in
-      let l = length_front bytes at within_run in
-      let f = formed_at bytes at byte within_run in
-      let d = end_is f in
-      let p : at + length (front bytes at) ≡ last + 1 = omega arith in
-      sym
-      (reads_front bytes at bits within_run
-      ∙ taken_ok (front bytes at) at bits (omega arith) (exact f (λ h. let s = some (omega arith) in omega arith))
-      ∙ ap (λ x. Ok (value (front bytes at), x)) p
-      ∙ ap (λ x. Ok (x, last + 1)) (sym v))
-
--- what is read fits and lies within the bytes
-within_taken : (gs bytes : List ℕ) (at bits : ℕ) → 0 < length gs → at + length gs ≤ length bytes → Within (taken gs at bits) bytes at bits
-within_taken gs bytes at bits some room =
-    let P : Result (ℕ × ℕ) NumberFault → Type 0 = λ r. Within r bytes at bits in
-    ⊎_elim
-    (λ fits.
-    ⊎_elim
-    (λ as-few. subst P (sym (taken_ok gs at bits fits as-few)) (fits, omega arith, room))
-    (λ long. subst P (sym (taken_long gs at bits long)) (omega arith))
-    (same_or (length (groups (value gs))) (length gs)))
-    (λ wide. subst P (sym (taken_wide gs at bits wide)) (omega arith))
-    (cases_lt (value gs) (2 ^ bits))
-
-pub within : (bytes : List ℕ) (at bits : ℕ) → Within (read_at bytes at bits) bytes at bits
-within bytes at bits =
-    let P : Result (ℕ × ℕ) NumberFault → Type 0 = λ r. Within r bytes at bits in
-    ⊎_elim
-    (λ inside.
-    let l = length_front bytes at inside in
-    subst P (sym (reads_front bytes at bits inside)) (within_taken (front bytes at) bytes at bits (omega arith) (omega arith)))
-    (λ past. subst P (sym (reads_short bytes at bits past)) (omega arith))
-    (cases_lt (at + run bytes at) (length bytes))
-
-pub within_at : (r : Result (ℕ × ℕ) NumberFault) (bytes : List ℕ) (at bits : ℕ) → read_at bytes at bits ≡ r → Within r bytes at bits
-within_at r bytes at bits e = subst (λ x. Within x bytes at bits) e (within bytes at bits)
+-- a fault of a whole number's bytes is at their place
+placed_taken : (gs : List ℕ) (at bits : ℕ) (f : NumberFault) → taken gs at bits ≡ Err f → fault_place f ≡ at
+unfolding taken
+placed_taken gs at bits (Short p) e = grind (arith, nat_tests)
+placed_taken gs at bits (Shape p) e = grind (arith, nat_tests)
 
 pub placed : Placed
-placed bytes at bits f e = within_at (Err f) bytes at bits e
+placed bytes at bits f e =
+    ⊎_elim
+    (λ inside. omega (arith, placed_taken (front bytes at) at bits f (sym (reads_front bytes at bits inside) ∙ e)))
+    (λ past. let s = reads_short bytes at bits past in let p : f ≡ Short (min at (length bytes)) = cc in omega (arith, ap fault_place p))
+    (cases_lt (at + run bytes at) (length bytes))
+
+-- where a number stands for itself, what was read is the outcome
+pub itself_read : (r : Result (ℕ × ℕ) NumberFault) → read_as (λ n. n) r ≡ r
+itself_read (Ok x) = refl
+itself_read (Err f) = refl
 
 -- the samples, by computation
 pub samples : Samples

@@ -1,15 +1,23 @@
 -- The groups of a number are its one shortest form. Assumes nothing.
-use Rattle.std.proofs.Common.{◌≡◌, ℕ, zero, suc, ◌+◌, ◌*◌, ◌/◌, ◌%◌, ◌^◌, ◌<◌, ◌≤◌, ltb, ◌⊎◌, List, [], ◌∷◌, length, get_or, sym, refl, ap, ◌∙◌, subst, inl, inr, ⊎_elim, pow-suc, arith}
-use Rattle.std.proofs.lemmas.Nat.{div_below}
-use Rattle.std.proofs.lemmas.Bool.{lt-ltb, le-ltb, cond-true, cond-false, cases_lt}
+use Rattle.std.proofs.Common.{◌≡◌, ℕ, zero, suc, ◌+◌, ◌*◌, ◌/◌, ◌%◌, ◌^◌, ◌<◌, ◌≤◌, max, ◌-◌, Iter, Bor, Option, Some, ◌++◌, List, [], ◌∷◌, length, drop, sym, refl, ap, ◌∙◌, subst, ⊎_elim, pow-add, arith}
+use Rattle.std.proofs.Math.Nat.{pow-le-pow_right, eq-zero-or-pos}
+use Rattle.std.proofs.lemmas.List.{get_or-reverse, length_push, length-reverse, drop_more}
+use Rattle.std.proofs.lemmas.Bool.{cases_lt}
+use Rattle.std.proofs.lemmas.Bool.Decides.{nat_tests}
+use Rattle.std.proofs.lemmas.Iterator.Adapters.{YieldsList-from_rev_slice}
+use Rattle.std.proofs.lemmas.Iterator.Consumers.{YieldsList-turn}
+use Rattle.std.specs.Iterator.{Yields}
+use Rattle.std.specs.Iterator.Adapters.{rev_source, rev_steps}
+use Rattle.std.specs.Slice.Iter.{iter_rest, iter_steps_back}
+use Rattle.std.specs.declared.iter.Rev.{Rev}
 use Rattle.groups.specs.Groups.{groups, groups_in, value, Formed, last, more}
 use Rattle.groups.specs.Laws.{OneShortest}
 
 low_in : (k n : ℕ) → n < 128 → groups_in (suc k) n ≡ n ∷ []
-low_in k n h = cond-true (ltb n 128) _ _ (lt-ltb n 128 h)
+low_in k n h = grind (arith, nat_tests)
 
 high_in : (k n : ℕ) → 128 ≤ n → groups_in (suc k) n ≡ (n % 128 + 128) ∷ groups_in k (n / 128)
-high_in k n h = cond-false (ltb n 128) _ _ (le-ltb n 128 h)
+high_in k n h = grind (arith, nat_tests)
 
 -- more steps than the number takes add nothing
 enough : (j k n : ℕ) → n < j → n < k → groups_in j n ≡ groups_in k n
@@ -57,23 +65,19 @@ length_formed (more a b f) = omega arith
 
 -- the groups of a number with one more group put below
 pub below_none : (m : ℕ) → m < 128 → groups (m + 128 * 0) ≡ m ∷ []
-below_none m h = let e : m + 128 * 0 ≡ m = omega arith in ap groups e ∙ groups_low m h
+below_none m h = grind (arith, groups_low)
 
 pub below_some : (m v : ℕ) → m < 128 → 0 < v → groups (m + 128 * v) ≡ (m + 128) ∷ groups v
 below_some m v h p =
     let q : (m + 128 * v) / 128 ≡ v = omega arith in
     let r : (m + 128 * v) % 128 ≡ m = omega arith in
-    groups_high (m + 128 * v) (omega arith) ∙ ap (λ x. (x + 128) ∷ groups ((m + 128 * v) / 128)) r ∙ ap (λ x. (m + 128) ∷ groups x) q
-
-zero_or : (v : ℕ) → (v ≡ 0) ⊎ (0 < v)
-zero_or zero = inl refl
-zero_or (suc v) = inr (omega arith)
+    grind (arith, groups_high)
 
 nought : (b v : ℕ) → v ≡ 0 → length (groups (b % 128 + 128 * v)) ≡ 1
-nought b v e = ap (λ x. length (groups (b % 128 + 128 * x))) e ∙ ap length (below_none (b % 128) (omega arith))
+nought b v e = grind (arith, groups_low)
 
 some : (b v : ℕ) → 0 < v → length (groups (b % 128 + 128 * v)) ≡ suc (length (groups v))
-some b v p = ap length (below_some (b % 128) v (omega arith) p)
+some b v p = grind (arith, below_some)
 
 pub slim : {gs : List ℕ} → Formed gs → length (groups (value gs)) ≤ length gs
 slim (last {b} h) = omega (arith, nought b 0 refl)
@@ -81,7 +85,7 @@ slim (more {b} {bs} high byte f) =
     ⊎_elim
     (λ e. omega (arith, nought b (value bs) e))
     (λ p. omega (arith, some b (value bs) p, slim f))
-    (zero_or (value bs))
+    (eq-zero-or-pos (value bs))
 
 pub only : {gs : List ℕ} → Formed gs → length gs ≡ length (groups (value gs)) → gs ≡ groups (value gs)
 only (last {b} h) e =
@@ -95,7 +99,7 @@ only (more {b} {bs} high byte f) e =
     let l : length bs ≡ length (groups (value bs)) = omega arith in
     let m : b % 128 + 128 ≡ b = omega arith in
     ap (λ t. b ∷ t) (only f l) ∙ ap (λ x. x ∷ groups (value bs)) (sym m) ∙ sym (below_some (b % 128) (value bs) (omega arith) p))
-    (zero_or (value bs))
+    (eq-zero-or-pos (value bs))
 
 pub one_shortest : OneShortest
 one_shortest n =
@@ -106,63 +110,40 @@ one_shortest n =
       only = λ gs f e l. only f (l ∙ ap (λ m. length (groups m)) (sym e)) ∙ ap groups e;
     }
 
--- a number below a power of 128 has no more groups than it says
-pub length_groups : (k n : ℕ) → 0 < k → n < 128 ^ k → length (groups n) ≤ k
-length_groups zero n a h = absurd (omega arith)
-length_groups (suc k) n a h =
+-- a number whose highest bit is at a place has a group for each seven bits up to there
+length_log : (n k : ℕ) → 2 ^ k ≤ n → n < 2 * 2 ^ k → k / 7 + 1 ≡ length (groups n)
+length_log =
+    by_sevens (λ n. (k : ℕ) → 2 ^ k ≤ n → n < 2 * 2 ^ k → k / 7 + 1 ≡ length (groups n))
+    (λ n l k low high.
     ⊎_elim
-    (λ l. omega (arith, ap length (groups_low n l)))
-    (λ l.
-    let less : n / 128 < 128 ^ k = div_below n 128 (128 ^ k) (omega arith) (rw pow-suc at h) in
+    (λ few. omega (arith, ap length (groups_low n l)))
+    (λ many. absurd (let up : 2 ^ 7 ≤ 2 ^ k = pow-le-pow_right (omega arith) {i = 7} {j = k} many in omega arith))
+    (cases_lt k 7))
+    (λ n l up k low high.
     ⊎_elim
-    (λ z. absurd (let one : n / 128 < 1 = subst (λ j. n / 128 < 128 ^ j) z less in omega arith))
-    (λ p. omega (arith, ap length (groups_high n l), length_groups k (n / 128) p less))
-    (zero_or k))
-    (cases_lt n 128)
+    (λ few. absurd (let up : 2 ^ k ≤ 2 ^ 6 = pow-le-pow_right (omega arith) {i = k} {j = 6} (omega arith) in omega arith))
+    (λ many.
+    let e : 2 ^ k ≡ 2 ^ (k - 7) * 2 ^ 7 = let i : k ≡ k - 7 + 7 = omega arith in ap (λ j. 2 ^ j) i ∙ pow-add 2 (k - 7) 7 in
+    omega (arith, ap length (groups_high n l), up (k - 7) (omega arith) (omega arith)))
+    (cases_lt k 7))
 
--- a greater number has no fewer groups
-pub mono_groups : (m n : ℕ) → n ≤ m → length (groups n) ≤ length (groups m)
-mono_groups =
-    by_sevens (λ m. (n : ℕ) → n ≤ m → length (groups n) ≤ length (groups m))
-    (λ m l n h. omega (arith, ap length (groups_low m l), ap length (groups_low n (omega arith))))
-    (λ m l up n h.
-    ⊎_elim
-    (λ s. omega (arith, ap length (groups_high m l), ap length (groups_low n s)))
-    (λ b. omega (arith, ap length (groups_high m l), ap length (groups_high n b), up (n / 128) (omega arith)))
-    (cases_lt n 128))
+pub length_log_max : (n m k : ℕ) → m ≡ max n 1 → 2 ^ k ≤ m → m < 2 * 2 ^ k → k / 7 + 1 ≡ length (groups n)
+unfolding groups
+length_log_max zero m k e low high = length_log 1 k (omega arith) (omega arith)
+length_log_max (suc n) m k e low high = length_log (suc n) k (omega arith) (omega arith)
 
--- the last group
-pub end_of : {gs : List ℕ} → Formed gs → ℕ
-end_of (last {b} h) = b
-end_of (more a b f) = end_of f
+-- the last groups of some stand for no more than all
+value_drop_le : (i : ℕ) (gs : List ℕ) → value (drop i gs) ≤ value gs
+value_drop_le zero gs = omega arith
+value_drop_le (suc i) [] = omega arith
+value_drop_le (suc i) (b ∷ bs) = omega (arith, value_drop_le i bs)
 
-pub end_at : {gs : List ℕ} (f : Formed gs) (k : ℕ) → suc k ≡ length gs → get_or gs k 0 ≡ end_of f
-unfolding end_of
-end_at (last h) zero e = refl
-end_at (last h) (suc k) e = absurd (omega arith)
-end_at (more a b f) zero e = absurd (omega (arith, length_formed f))
-end_at (more a b f) (suc k) e = end_at f k (omega arith)
-
-positive : {gs : List ℕ} (f : Formed gs) → 0 < end_of f → 0 < value gs
-unfolding end_of
-positive (last h) p = omega arith
-positive (more a b f) p = omega (arith, positive f p)
-
--- a last group of 0 is one too many, any other makes the form the shortest
-pub exact : {gs : List ℕ} (f : Formed gs) → (1 < length gs → 0 < end_of f) → length (groups (value gs)) ≡ length gs
-unfolding end_of
-exact (last {b} h) p = nought b 0 refl
-exact (more {b} {bs} hi byte f) p =
-    let e = p (omega (arith, length_formed f)) in
-    some b (value bs) (positive f e) ∙ ap suc (exact f (λ _. e))
-
-pub one_too_many : {gs : List ℕ} (f : Formed gs) → 1 < length gs → end_of f ≡ 0 → length (groups (value gs)) < length gs
-unfolding end_of
-one_too_many (last h) l e = absurd (omega arith)
-one_too_many (more {b = b} hi byte (last {b = m} h)) l e =
-    let z : m % 128 + 128 * 0 ≡ 0 = omega arith in omega (arith, nought b (m % 128 + 128 * 0) z)
-one_too_many (more {b = b} hi byte (more {b = d} {bs = ds} hi' byte' f)) l e =
-    ⊎_elim
-    (λ z. omega (arith, nought b (value (d ∷ ds)) z))
-    (λ p. omega (arith, some b (value (d ∷ ds)) p, one_too_many (more {b = d} {bs = ds} hi' byte' f) (omega (arith, length_formed f)) e))
-    (zero_or (value (d ∷ ds)))
+-- one more group from the back
+pub value_turn : (gs : List ℕ) (s t u : Rev (Iter ℕ)) → iter_rest (rev_source s) ≡ gs → (xs : List (Bor ℕ)) → Yields (rev_steps iter_steps_back) s xs t → (r : Option (Bor ℕ)) (b : Bor ℕ) → r ≡ Some b → rev_steps iter_steps_back t r u → (n : ℕ) → value (drop (length gs - length xs) gs) ≡ n → (value (drop (length gs - length (xs ++ (b ∷ []))) gs) ≡ b.now % 128 + 128 * n) × (b.now % 128 + 128 * n ≤ value gs)
+value_turn gs s t u rest xs yielded r b is steps n all =
+    let (below, e) = YieldsList-turn (YieldsList-from_rev_slice gs rest) xs _ yielded r _ b is steps in
+    let within : length xs < length gs = omega (arith, length-reverse gs) in
+    let d = drop_more gs (length gs - (length xs + 1)) b.now (omega arith) in
+    let l = value_drop_le (length gs - (length xs + 1)) gs in
+    let v : value (drop (length gs - (length xs + 1)) gs) ≡ b.now % 128 + 128 * n = grind (arith, get_or-reverse) in
+    (ap (λ k. value (drop (length gs - k) gs)) (length_push xs b) ∙ v, omega arith)

@@ -1,11 +1,12 @@
 -- How often a path stands in a list of paths.
-use Rattle.std.proofs.Common.{◌≡◌, ℕ, zero, suc, ◌+◌, ◌<◌, ◌≤◌, true, false, cond, eqb, ◌⊎◌, List, [], ◌∷◌, ◌++◌, map, length, get_or, sum_by, sym, refl, ap, ◌∙◌, subst, inl, inr, arith}
+use Rattle.std.proofs.Common.{◌≡◌, ℕ, zero, suc, ◌+◌, ◌<◌, ◌≤◌, eqb, ◌⊎◌, List, [], ◌∷◌, ◌++◌, map, length, get_or, sum_by, sym, refl, ap, ◌∙◌, subst, inl, inr, ⊎_elim, arith}
 use Rattle.std.specs.List.{ContainsAt as Has}
 use Rattle.std.specs.List.Sorted.{IsPermutation}
-use Rattle.std.proofs.lemmas.Bool.{cases_Bool, cases_eq, eqb-true, eq-eqb, cond-true, cond-false}
+use Rattle.std.proofs.lemmas.Bool.{cases_eq, eq-eqb, cond-true}
+use Rattle.std.proofs.lemmas.Bool.Decides.{nat_tests}
 use Rattle.std.proofs.lemmas.List.Sums.{sum_by-cons}
 use Rattle.std.proofs.lemmas.List.Sorted.{sum_by-IsPermutation}
-use Rattle.std.proofs.lemmas.List.{same_from_push}
+use Rattle.std.proofs.lemmas.List.{same_from_push, map-id}
 pub use Rattle.tree.specs.Held.{delta, times, children}
 use Rattle.tree.specs.Walks.{Path}
 
@@ -13,34 +14,21 @@ pub delta_self : (p : Path) → delta p p ≡ 1
 delta_self [] = refl
 delta_self (i ∷ p) = cond-true (eqb i i) (delta p p) 0 (eq-eqb i i refl) ∙ delta_self p
 
-cons_same : (i j : ℕ) (p q : Path) → i ≡ j → p ≡ q → ◌≡◌ {A = Path} (i ∷ p) (j ∷ q)
-cons_same i j p q a b = cc
-
 pub delta_cases : (p q : Path) → (delta p q ≡ 0) ⊎ ((delta p q ≡ 1) × (p ≡ q))
 delta_cases [] [] = inr (refl, refl)
 delta_cases [] (j ∷ q) = inl refl
 delta_cases (i ∷ p) [] = inl refl
-delta_cases (i ∷ p) (j ∷ q) = go (cases_Bool (eqb i j)) (delta_cases p q)
-  where
-    go : (eqb i j ≡ true) ⊎ (eqb i j ≡ false) → (delta p q ≡ 0) ⊎ ((delta p q ≡ 1) × (p ≡ q)) → (cond (eqb i j) (delta p q) 0 ≡ 0) ⊎ ((cond (eqb i j) (delta p q) 0 ≡ 1) × (◌≡◌ {A = Path} (i ∷ p) (j ∷ q)))
-    go (inl t) (inl z) = inl (cond-true (eqb i j) (delta p q) 0 t ∙ z)
-    go (inl t) (inr o) = inr (cond-true (eqb i j) (delta p q) 0 t ∙ o.0, cons_same i j p q (eqb-true i j t) o.1)
-    go (inr f) (inl z) = inl (cond-false (eqb i j) (delta p q) 0 f)
-    go (inr f) (inr o) = inl (cond-false (eqb i j) (delta p q) 0 f)
+delta_cases (i ∷ p) (j ∷ q) = let c = delta_cases p q in grind (arith, nat_tests)
 
 pub delta_none : (p q : Path) → (p ≡ q → ⊥) → delta p q ≡ 0
-delta_none p q d = go (delta_cases p q)
-  where
-    go : (delta p q ≡ 0) ⊎ ((delta p q ≡ 1) × (p ≡ q)) → delta p q ≡ 0
-    go (inl z) = z
-    go (inr o) = absurd (d o.1)
+delta_none p q d = let c = delta_cases p q in grind arith
 
 pub delta_same : (p q : Path) → p ≡ q → delta p q ≡ 1
 delta_same p q e = subst (λ (r : Path). delta p r ≡ 1) e (delta_self p)
 
 pub push_nil : (p : Path) (i : ℕ) → p ++ (i ∷ []) ≡ [] → ⊥
-push_nil [] i e = let z : ◌≡◌ {A = ℕ} 0 1 = cc in omega arith
-push_nil (j ∷ p) i e = let z : ◌≡◌ {A = ℕ} 0 1 = cc in omega arith
+push_nil [] i e = cc
+push_nil (j ∷ p) i e = cc
 
 pub times_append : (p : Path) (xs ys : List Path) → times p (xs ++ ys) ≡ times p xs + times p ys
 times_append p [] ys = omega arith
@@ -62,11 +50,11 @@ children_nil p (suc m) =
     omega arith
 
 delta_push : (q p : Path) (i j : ℕ) → delta (q ++ (i ∷ [])) (p ++ (j ∷ [])) ≤ delta q p
-delta_push q p i j = go (delta_cases (q ++ (i ∷ [])) (p ++ (j ∷ [])))
-  where
-    go : (delta (q ++ (i ∷ [])) (p ++ (j ∷ [])) ≡ 0) ⊎ ((delta (q ++ (i ∷ [])) (p ++ (j ∷ [])) ≡ 1) × (q ++ (i ∷ []) ≡ p ++ (j ∷ []))) → delta (q ++ (i ∷ [])) (p ++ (j ∷ [])) ≤ delta q p
-    go (inl z) = omega arith
-    go (inr o) = let s = delta_same q p (same_from_push q p i j o.1).0 in let z = o.0 in omega arith
+delta_push q p i j =
+    ⊎_elim
+    (λ z. omega arith)
+    (λ o. omega (arith, o.0, delta_same q p (same_from_push q p i j o.1).0))
+    (delta_cases (q ++ (i ∷ [])) (p ++ (j ∷ [])))
 
 delta_other : (q p : Path) (i j : ℕ) → (i ≡ j → ⊥) → delta (q ++ (i ∷ [])) (p ++ (j ∷ [])) ≡ 0
 delta_other q p i j d = delta_none (q ++ (i ∷ [])) (p ++ (j ∷ [])) (λ e. d (same_from_push q p i j e).1)
@@ -81,32 +69,21 @@ children_past q p i (suc m) l =
 
 pub children_push : (q p : Path) (i m : ℕ) → times (q ++ (i ∷ [])) (children p m) ≤ delta q p
 children_push q p i zero = omega arith
-children_push q p i (suc m) = go (children_push q p i m) (cases_eq i (suc m))
-  where
-    go : times (q ++ (i ∷ [])) (children p m) ≤ delta q p → (i ≡ suc m) ⊎ (i ≡ suc m → ⊥) → times (q ++ (i ∷ [])) (children p m ++ ((p ++ (suc m ∷ [])) ∷ [])) ≤ delta q p
-    go h (inl e) =
-        let a = times_append (q ++ (i ∷ [])) (children p m) ((p ++ (suc m ∷ [])) ∷ []) in
-        let z = children_past q p i m (omega arith) in
-        let b = delta_push q p i (suc m) in
-        omega arith
-    go h (inr d) =
-        let a = times_append (q ++ (i ∷ [])) (children p m) ((p ++ (suc m ∷ [])) ∷ []) in
-        let z = delta_other q p i (suc m) d in
-        omega arith
+children_push q p i (suc m) =
+    let a = times_append (q ++ (i ∷ [])) (children p m) ((p ++ (suc m ∷ [])) ∷ []) in
+    ⊎_elim
+    (λ e. omega (arith, children_past q p i m (omega arith), delta_push q p i (suc m)))
+    (λ d. omega (arith, children_push q p i m, delta_other q p i (suc m) d))
+    (cases_eq i (suc m))
 
 pub children_has : (p : Path) (i m : ℕ) → 1 ≤ i → i ≤ m → 1 ≤ times (p ++ (i ∷ [])) (children p m)
 children_has p i zero a b = absurd (omega arith)
-children_has p i (suc m) a b = go (children_has p i m a) (cases_eq i (suc m))
-  where
-    go : (i ≤ m → 1 ≤ times (p ++ (i ∷ [])) (children p m)) → (i ≡ suc m) ⊎ (i ≡ suc m → ⊥) → 1 ≤ times (p ++ (i ∷ [])) (children p m ++ ((p ++ (suc m ∷ [])) ∷ []))
-    go f (inl e) =
-        let t = times_append (p ++ (i ∷ [])) (children p m) ((p ++ (suc m ∷ [])) ∷ []) in
-        let h = delta_same (p ++ (i ∷ [])) (p ++ (suc m ∷ [])) (ap (λ (k : ℕ). p ++ (k ∷ [])) e) in
-        omega arith
-    go f (inr d) =
-        let t = times_append (p ++ (i ∷ [])) (children p m) ((p ++ (suc m ∷ [])) ∷ []) in
-        let h = f (omega arith) in
-        omega arith
+children_has p i (suc m) a b =
+    let t = times_append (p ++ (i ∷ [])) (children p m) ((p ++ (suc m ∷ [])) ∷ []) in
+    ⊎_elim
+    (λ e. omega (arith, delta_same (p ++ (i ∷ [])) (p ++ (suc m ∷ [])) (ap (λ (k : ℕ). p ++ (k ∷ [])) e)))
+    (λ d. omega (arith, children_has p i m a (omega arith)))
+    (cases_eq i (suc m))
 
 module _ {X : Type 0} (f : X → Path) where
   pub times_map : (p : Path) (xs : List X) → sum_by (λ x. delta p (f x)) xs ≡ times p (map f xs)
@@ -137,16 +114,26 @@ module _ {X : Type 0} where
   -- a path that counts among the paths of a list is that of an element
   pub has_found : (f : X → Path) (p : Path) (xs : List X) → 1 ≤ times p (map f xs) → (x : X) × Has xs x × (f x ≡ p)
   has_found f p [] h = absurd (omega arith)
-  has_found f p (x ∷ xs) h = go (delta_cases p (f x)) (has_found f p xs)
-    where
-      go : (delta p (f x) ≡ 0) ⊎ ((delta p (f x) ≡ 1) × (p ≡ f x)) → (1 ≤ times p (map f xs) → (y : X) × Has xs y × (f y ≡ p)) → (y : X) × Has (x ∷ xs) y × (f y ≡ p)
-      go (inl z) below = let b = below (omega arith) in (b.0, has_there x b.0 xs b.1, b.2)
-      go (inr o) below = (x, has_here x xs, sym o.1)
+  has_found f p (x ∷ xs) h =
+      ⊎_elim
+      (λ z. let b = has_found f p xs (omega arith) in (b.0, has_there x b.0 xs b.1, b.2))
+      (λ o. (x, has_here x xs, sym o.1))
+      (delta_cases p (f x))
 
   pub has_counts : (f : X → Path) (x : X) (xs : List X) → Has xs x → 1 ≤ times (f x) (map f xs)
   has_counts f x [] h = absurd (has_nil x h)
-  has_counts f x (y ∷ xs) h = go (has_cases y x xs h) (has_counts f x xs)
-    where
-      go : (y ≡ x) ⊎ Has xs x → (Has xs x → 1 ≤ times (f x) (map f xs)) → 1 ≤ delta (f x) (f y) + times (f x) (map f xs)
-      go (inl e) below = let s = delta_same (f x) (f y) (sym (ap f e)) in omega arith
-      go (inr m) below = let b = below m in omega arith
+  has_counts f x (y ∷ xs) h =
+      ⊎_elim
+      (λ e. omega (arith, delta_same (f x) (f y) (sym (ap f e))))
+      (λ m. omega (arith, has_counts f x xs m))
+      (has_cases y x xs h)
+
+-- a path counts in a list exactly if it is there
+pub has_times : (p : Path) (xs : List Path) → Has xs p → 1 ≤ times p xs
+has_times p xs h = let a = has_counts (λ (q : Path). q) p xs h in let b = ap (times p) (map-id xs) in omega arith
+
+pub times_has : (p : Path) (xs : List Path) → 1 ≤ times p xs → Has xs p
+times_has p xs h =
+    let b = ap (times p) (map-id xs) in
+    let f = has_found (λ (q : Path). q) p xs (omega arith) in
+    subst (Has xs) f.2 f.1

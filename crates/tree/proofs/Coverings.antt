@@ -1,33 +1,20 @@
 -- At any time: every end was met or lies on or beyond one open path.
-use Rattle.std.proofs.Common.{◌≡◌, ℕ, ◌+◌, ◌<◌, ◌≤◌, ◌⊎◌, List, [], ◌∷◌, ◌++◌, map, sym, refl, ap, subst, inl, inr, arith}
+use Rattle.std.proofs.Common.{◌≡◌, ℕ, ◌+◌, ◌<◌, ◌≤◌, ◌⊎◌, List, [], ◌∷◌, ◌++◌, map, sym, refl, ap, subst, inl, inr, ⊎_elim, arith}
 use Rattle.std.specs.List.{ContainsAt as Has, AllByRecursion}
 use Rattle.std.proofs.ByRecursion.{all-has, has_append_right}
-use Rattle.std.proofs.lemmas.List.{append-nil, append_assoc, map-id}
+use Rattle.std.proofs.lemmas.List.{append-nil, append_assoc}
 use Rattle.std.proofs.lemmas.Bool.{cases_lt}
 use Rattle.tree.specs.Walks.{Path, Standing, branch, choice, leaf, Machine, Walks, Ends}
 use Rattle.tree.specs.Laws.{Covering}
 use Rattle.tree.proofs.Fronts.{no_end}
-use Rattle.tree.proofs.Counts.{delta, delta_none, delta_cases, times, times_append, children_push, push_nil, has_here, has_there, has_found, has_counts}
+use Rattle.tree.proofs.Counts.{delta, delta_none, delta_cases, times, times_append, children_push, push_nil, has_here, has_there, has_found, has_counts, has_times, times_has}
 use Rattle.tree.proofs.Tallies.{EndedEdge, Walked, children_at, all_children, paths, leaves_of, Tally}
 use Rattle.tree.proofs.Wholes.{once_from, Beyond, reach, once, edge_of_path, leaves_of_ends, leaves_of_times, leaves_of_has, all_children_push, all_children_nil}
 
 -- a path is empty or has a last alternative
 snoc : (p : Path) → (p ≡ []) ⊎ ((q : Path) × (i : ℕ) × (p ≡ q ++ (i ∷ [])))
 snoc [] = inl refl
-snoc (j ∷ p) = go (snoc p)
-  where
-    go : (p ≡ []) ⊎ ((q : Path) × (i : ℕ) × (p ≡ q ++ (i ∷ []))) → (◌≡◌ {A = Path} (j ∷ p) []) ⊎ ((q : Path) × (i : ℕ) × (j ∷ p ≡ q ++ (i ∷ [])))
-    go (inl e) = inr ([], j, ap (λ (r : Path). j ∷ r) e)
-    go (inr h) = inr (j ∷ h.0, h.1, ap (λ (r : Path). j ∷ r) h.2)
-
-has_times : (p : Path) (xs : List Path) → Has xs p → 1 ≤ times p xs
-has_times p xs h = let a = has_counts (λ (q : Path). q) p xs h in let b = ap (times p) (map-id xs) in omega arith
-
-times_has : (p : Path) (xs : List Path) → 1 ≤ times p xs → Has xs p
-times_has p xs h =
-    let b = ap (times p) (map-id xs) in
-    let f = has_found (λ (q : Path). q) p xs (omega arith) in
-    subst (Has xs) f.2 f.1
+snoc (j ∷ p) = inr (⊎_elim (λ e. ([], j, ap (λ (r : Path). j ∷ r) e)) (λ h. (j ∷ h.0, h.1, ap (λ (r : Path). j ∷ r) h.2)) (snoc p))
 
 module _ {E : Type 0} where
   -- an alternative of a choice that was met
@@ -56,11 +43,12 @@ module _ {E : Type 0} where
 
 module _ {S E : Type 0} (M : Machine S E) (left : List Path) (done : List (EndedEdge E)) (walked : AllByRecursion (Walked M) done) (covers : (r : Path) → delta r [] + times r (all_children done) ≡ times r (paths done) + times r left) where
   all_once : (p : Path) → times p (paths done) + times p left ≤ 1
-  all_once p = go (snoc p)
-    where
-      go : (p ≡ []) ⊎ ((q : Path) × (i : ℕ) × (p ≡ q ++ (i ∷ []))) → times p (paths done) + times p left ≤ 1
-      go (inl e) = subst (λ (r : Path). times r (paths done) + times r left ≤ 1) (sym e) (let a = covers [] in let b = all_children_nil done in omega arith)
-      go (inr h) = subst (λ (r : Path). times r (paths done) + times r left ≤ 1) (sym h.2) (let a = covers (h.0 ++ (h.1 ∷ [])) in let b = all_children_push h.0 h.1 done in let c = once M left done walked covers h.0 in let d = delta_none (h.0 ++ (h.1 ∷ [])) [] (push_nil h.0 h.1) in omega arith)
+  all_once p =
+      let P : Path → Type 0 = λ r. times r (paths done) + times r left ≤ 1 in
+      ⊎_elim
+      (λ e. subst P (sym e) (omega (arith, covers [], all_children_nil done)))
+      (λ h. subst P (sym h.2) (omega (arith, covers (h.0 ++ (h.1 ∷ [])), all_children_push h.0 h.1 done, once M left done walked covers h.0, delta_none (h.0 ++ (h.1 ∷ [])) [] (push_nil h.0 h.1))))
+      (snoc p)
 
   -- where a path beyond q was reached, q was ended at a choice
   above : (r q : Path) (i : ℕ) → 1 ≤ times (q ++ (i ∷ r)) (paths done) + times (q ++ (i ∷ r)) left → 1 ≤ times (q ++ (i ∷ [])) (all_children done)

@@ -1,23 +1,16 @@
 -- Two lists in which no path stands twice and that have the same elements are shuffled.
-use Rattle.std.proofs.Common.{◌≡◌, ℕ, ◌+◌, ◌≤◌, ◌⊎◌, List, [], ◌∷◌, map, sym, refl, ap, ◌∙◌, subst, inl, inr, arith}
-use Rattle.std.specs.List.{ContainsAt as Has}
+use Rattle.std.proofs.Common.{◌≡◌, ℕ, ◌≤◌, List, [], ◌∷◌, map, sym, ap, ◌∙◌, subst, ⊎_elim, arith}
+use Rattle.std.specs.List.{ContainsAt as Has, remove}
 use Rattle.std.specs.List.Sorted.{IsPermutation}
-use Rattle.std.proofs.lemmas.List.Sorted.{IsPermutation-refl, IsPermutation-sym, IsPermutation-cons, IsPermutation-trans, IsPermutation-swap, sum_by-IsPermutation}
+use Rattle.std.proofs.lemmas.List.Sorted.{IsPermutation-refl, IsPermutation-sym, IsPermutation-cons, IsPermutation-trans, IsPermutation-remove, sum_by-IsPermutation}
 use Rattle.std.proofs.ByRecursion.{has_shuffled}
 use Rattle.tree.specs.Walks.{Path, Machine}
 use Rattle.tree.specs.Laws.{Once, Complete}
-use Rattle.tree.proofs.Counts.{delta, delta_same, delta_cases, times, times_map_shuffled, has_here, has_there, has_nil, has_cases, has_counts}
-
-swap_two : {X : Type 0} (x y : X) (xs : List X) → IsPermutation (x ∷ y ∷ xs) (y ∷ x ∷ xs)
-swap_two x y xs = IsPermutation-swap (x ∷ y ∷ xs) (y ∷ x ∷ xs) 0 1 (omega arith) (omega arith) refl
+use Rattle.tree.proofs.Counts.{delta_same, delta_cases, times, times_map_shuffled, has_here, has_there, has_nil, has_cases, has_counts, times_has}
+use Rattle.std.proofs.lemmas.Bool.{cases_lt}
 
 to_front : {X : Type 0} (x : X) (ys : List X) → Has ys x → (zs : List X) × IsPermutation ys (x ∷ zs)
-to_front x [] h = absurd (has_nil x h)
-to_front {X} x (y ∷ ys) h = go (has_cases y x ys h) (to_front x ys)
-  where
-    go : (y ≡ x) ⊎ Has ys x → (Has ys x → (zs : List X) × IsPermutation ys (x ∷ zs)) → (zs : List X) × IsPermutation (y ∷ ys) (x ∷ zs)
-    go (inl e) f = (ys, subst (λ (z : X). IsPermutation (y ∷ ys) (z ∷ ys)) e (IsPermutation-refl (y ∷ ys)))
-    go (inr m) f = let r = f m in (y ∷ r.0, IsPermutation-trans (y ∷ ys) (y ∷ x ∷ r.0) (x ∷ y ∷ r.0) (IsPermutation-cons y ys (x ∷ r.0) r.1) (swap_two y x r.0))
+to_front x ys h = (remove ys h.0, IsPermutation-remove ys h.0 x h.1 (sym (h.2 x)))
 
 module _ {X : Type 0} (f : X → Path) where
   abbrev Single : List X → Type 0
@@ -45,28 +38,19 @@ module _ {X : Type 0} (f : X → Path) where
       IsPermutation-trans (x ∷ xs) (x ∷ zs) ys (IsPermutation-cons x xs zs (same_shuffled xs zs a' d' to fro)) (IsPermutation-sym ys (x ∷ zs) sh)
     where
       other : (u z : X) (l : List X) → (u ≡ z → ⊥) → Has (u ∷ l) z → Has l z
-      other u z l d h = go (has_cases u z l h)
-        where
-          go : (u ≡ z) ⊎ Has l z → Has l z
-          go (inl e) = absurd (d e)
-          go (inr m) = m
+      other u z l d h = ⊎_elim (λ e. absurd (d e)) (λ m. m) (has_cases u z l h)
 
 -- a list in which no path stands twice counts each at most once
 times_none : (p : Path) (xs : List Path) → (Has xs p → ⊥) → times p xs ≡ 0
-times_none p [] h = refl
-times_none p (x ∷ xs) h = go (delta_cases p x) (times_none p xs (λ m. h (has_there x p xs m)))
-  where
-    go : (delta p x ≡ 0) ⊎ ((delta p x ≡ 1) × (p ≡ x)) → times p xs ≡ 0 → delta p x + times p xs ≡ 0
-    go (inl z) e = omega arith
-    go (inr o) e = absurd (h (subst (λ (q : Path). Has (x ∷ xs) q) (sym o.1) (has_here x xs)))
+times_none p xs h = ⊎_elim (λ l. absurd (h (times_has p xs l))) (λ l. omega arith) (cases_lt 0 (times p xs))
 
 pub once_times : (xs : List Path) → Once xs → (p : Path) → times p xs ≤ 1
 once_times [] o p = omega arith
-once_times (x ∷ xs) o p = go (delta_cases p x) (once_times xs o.1 p)
-  where
-    go : (delta p x ≡ 0) ⊎ ((delta p x ≡ 1) × (p ≡ x)) → times p xs ≤ 1 → delta p x + times p xs ≤ 1
-    go (inl z) l = omega arith
-    go (inr e) l = let n = times_none p xs (λ m. o.0 (subst (λ (q : Path). Has xs q) e.1 m)) in let a = e.0 in omega arith
+once_times (x ∷ xs) o p =
+    ⊎_elim
+    (λ z. omega (arith, once_times xs o.1 p))
+    (λ e. omega (arith, e.0, times_none p xs (λ m. o.0 (subst (Has xs) e.1 m))))
+    (delta_cases p x)
 
 module _ {S E : Type 0} (M : Machine S E) where
   pub complete_same : (k l : List (Path × E)) (m n : ℕ) → Complete M k m → Complete M l n → IsPermutation k l × (m ≡ n)

@@ -17,7 +17,7 @@ use Rattle.tree.proofs.Coverings.{tally_covering}
 use Rattle.tree.proofs.Histories.{told_push, met_fresh, met_step, met_enter, met_exhaust}
 
 at_out : {S E : Type 0} (p : Path) (n : ℕ) (s : S) (st : Standing E) → at p n s st ≡ out → ⊥
-at_out p n s st e = let z : ◌≡◌ {A = ℕ} 0 1 = cc in omega arith
+at_out p n s st e = cc
 
 ended_unended : {E : Type 0} (n : ℕ) (st : Standing E) → ended_steps n st + unended_steps n st ≡ n
 ended_unended n branch = omega arith

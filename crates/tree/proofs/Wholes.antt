@@ -1,5 +1,5 @@
 -- When nothing waits and nothing is under way, every end was met exactly once.
-use Rattle.std.proofs.Common.{◌≡◌, ℕ, ◌+◌, ◌<◌, ◌≤◌, ◌⊎◌, List, [], ◌∷◌, ◌++◌, map, sum_by, sym, refl, ap, ◌∙◌, subst, inl, inr, arith}
+use Rattle.std.proofs.Common.{◌≡◌, ℕ, ◌+◌, ◌<◌, ◌≤◌, ◌⊎◌, List, [], ◌∷◌, ◌++◌, map, sum_by, sym, refl, ap, ◌∙◌, subst, inl, inr, ⊎_elim, arith}
 use Rattle.std.specs.List.{ContainsAt as Has, AllByRecursion}
 use Rattle.std.proofs.lemmas.List.Sums.{sum_by-cons}
 use Rattle.std.proofs.ByRecursion.{all-has, All-append, has_append_left, has_append_right}
@@ -9,21 +9,13 @@ use Rattle.tree.specs.Walks.{Path, Standing, branch, choice, leaf, Machine, Stop
 use Rattle.tree.specs.Searches.{leaves_at}
 use Rattle.tree.specs.Laws.{Once, Complete}
 use Rattle.tree.proofs.Fronts.{one_edge}
-use Rattle.tree.proofs.Counts.{delta, delta_same, delta_none, times, times_append, children, children_nil, children_push, children_has, push_nil, has_here, has_there, has_nil, has_cases, has_found}
+use Rattle.tree.proofs.Counts.{delta, delta_same, delta_none, times, times_append, children, children_nil, children_push, children_has, push_nil, has_here, has_there, has_nil, has_cases, has_found, has_times}
 use Rattle.tree.proofs.Tallies.{EndedEdge, Walked, children_at, all_children, paths, leaves_of, steps_of, Tally}
 
 -- a list in which no path counts twice has none twice
 pub once_from : (xs : List Path) → ((p : Path) → times p xs ≤ 1) → Once xs
 once_from [] h = tt
-once_from (x ∷ xs) h = (λ a. let b = times-of x xs a in let c = h x in let d = delta_same x x refl in omega arith, once_from xs (λ p. let c = h p in omega arith))
-  where
-    times-of : (y : Path) (ys : List Path) → Has ys y → 1 ≤ times y ys
-    times-of y [] a = absurd (has_nil y a)
-    times-of y (z ∷ ys) a = go (has_cases z y ys a) (times-of y ys)
-      where
-        go : (z ≡ y) ⊎ Has ys y → (Has ys y → 1 ≤ times y ys) → 1 ≤ delta y z + times y ys
-        go (inl e) f = let s = delta_same y z (sym e) in omega arith
-        go (inr m) f = let s = f m in omega arith
+once_from (x ∷ xs) h = (λ a. let b = has_times x xs a in let c = h x in let d = delta_same x x refl in omega arith, once_from xs (λ p. let c = h p in omega arith))
 
 module _ {E : Type 0} where
   children_at_nil : (p : Path) (st : Standing E) → times [] (children_at p st) ≡ 0
@@ -54,17 +46,12 @@ module _ {E : Type 0} where
 
   all_children_has : (r : Path) (k : EndedEdge E) (done : List (EndedEdge E)) → Has done k → 1 ≤ times r (children_at k.path k.standing) → 1 ≤ times r (all_children done)
   all_children_has r k [] h l = absurd (has_nil k h)
-  all_children_has r k (j ∷ ks) h l = go (has_cases j k ks h) (all_children_has r k ks)
-    where
-      go : (j ≡ k) ⊎ Has ks k → (Has ks k → 1 ≤ times r (children_at k.path k.standing) → 1 ≤ times r (all_children ks)) → 1 ≤ times r (children_at j.path j.standing ++ all_children ks)
-      go (inl e) f =
-          let a = times_append r (children_at j.path j.standing) (all_children ks) in
-          let b : times r (children_at j.path j.standing) ≡ times r (children_at k.path k.standing) = ap (λ (x : EndedEdge E). times r (children_at x.path x.standing)) e in
-          omega arith
-      go (inr m) f =
-          let a = times_append r (children_at j.path j.standing) (all_children ks) in
-          let b = f m l in
-          omega arith
+  all_children_has r k (j ∷ ks) h l =
+      let a = times_append r (children_at j.path j.standing) (all_children ks) in
+      ⊎_elim
+      (λ e. omega (arith, ap (λ (x : EndedEdge E). times r (children_at x.path x.standing)) e))
+      (λ m. omega (arith, all_children_has r k ks m l))
+      (has_cases j k ks h)
 
   leaves_at_times : (r p : Path) (st : Standing E) → times r (map (λ (l : Path × E). l.0) (leaves_at p st)) ≤ delta r p
   leaves_at_times r p branch = omega arith
@@ -82,26 +69,26 @@ module _ {E : Type 0} where
 
   pub leaves_of_has : (e : E) (k : EndedEdge E) (done : List (EndedEdge E)) → Has done k → k.standing ≡ leaf e → Has (leaves_of done) (k.path, e)
   leaves_of_has e k [] h s = absurd (has_nil k h)
-  leaves_of_has e k (j ∷ ks) h s = go (has_cases j k ks h) (leaves_of_has e k ks)
-    where
-      go : (j ≡ k) ⊎ Has ks k → (Has ks k → k.standing ≡ leaf e → Has (leaves_of ks) (k.path, e)) → Has (leaves_at j.path j.standing ++ leaves_of ks) (k.path, e)
-      go (inl b) f =
-          let P : List (Path × E) → Type 0 = λ l. Has l (k.path, e) in
-          let c : leaves_at k.path k.standing ≡ ((k.path, e) ∷ []) = ap (leaves_at k.path) s in
-          let d : leaves_at j.path j.standing ≡ leaves_at k.path k.standing = ap (λ (x : EndedEdge E). leaves_at x.path x.standing) b in
-          has_append_left _ (leaves_of ks) (k.path, e) (subst P (sym (d ∙ c)) (has_here (k.path, e) []))
-      go (inr m) f = has_append_right (leaves_at j.path j.standing) (leaves_of ks) (k.path, e) (f m s)
+  leaves_of_has e k (j ∷ ks) h s =
+      ⊎_elim
+      (λ b.
+      let P : List (Path × E) → Type 0 = λ l. Has l (k.path, e) in
+      let c : leaves_at k.path k.standing ≡ ((k.path, e) ∷ []) = ap (leaves_at k.path) s in
+      let d : leaves_at j.path j.standing ≡ leaves_at k.path k.standing = ap (λ (x : EndedEdge E). leaves_at x.path x.standing) b in
+      has_append_left _ (leaves_of ks) (k.path, e) (subst P (sym (d ∙ c)) (has_here (k.path, e) [])))
+      (λ m. has_append_right (leaves_at j.path j.standing) (leaves_of ks) (k.path, e) (leaves_of_has e k ks m s))
+      (has_cases j k ks h)
 
   abbrev edge_of : EndedEdge E → Path × ℕ
   edge_of k = (k.path, k.steps)
 
   edges_has : (k : EndedEdge E) (done : List (EndedEdge E)) → Has done k → Has (map edge_of done) (k.path, k.steps)
   edges_has k [] h = absurd (has_nil k h)
-  edges_has k (j ∷ ks) h = go (has_cases j k ks h) (edges_has k ks)
-    where
-      go : (j ≡ k) ⊎ Has ks k → (Has ks k → Has (map edge_of ks) (k.path, k.steps)) → Has (edge_of j ∷ map edge_of ks) (edge_of k)
-      go (inl e) f = subst (λ (x : EndedEdge E). Has (edge_of j ∷ map edge_of ks) (edge_of x)) e (has_here (edge_of j) (map edge_of ks))
-      go (inr m) f = has_there (edge_of j) (edge_of k) (map edge_of ks) (f m)
+  edges_has k (j ∷ ks) h =
+      ⊎_elim
+      (λ e. subst (λ (x : EndedEdge E). Has (edge_of j ∷ map edge_of ks) (edge_of x)) e (has_here (edge_of j) (map edge_of ks)))
+      (λ m. has_there (edge_of j) (edge_of k) (map edge_of ks) (edges_has k ks m))
+      (has_cases j k ks h)
 
   edges_paths : (done : List (EndedEdge E)) → map (λ (l : Path × ℕ). l.0) (map edge_of done) ≡ paths done
   edges_paths [] = refl
@@ -160,11 +147,7 @@ module _ {S E : Type 0} (M : Machine S E) where
 
     -- a walk's path was ended, or a prefix of it is open
     pub reach : {p : Path} {n : ℕ} {s : S} {x : Standing E} → Walks M p n s x → (1 ≤ times p (paths done)) ⊎ Beyond left p
-    reach opened = go (cases_lt 0 (times [] (paths done)))
-      where
-        go : (0 < times [] (paths done)) ⊎ (times [] (paths done) ≤ 0) → (1 ≤ times [] (paths done)) ⊎ Beyond left []
-        go (inl l) = inl (omega arith)
-        go (inr l) = let a = covers [] in inr ([], [], omega arith, refl)
+    reach opened = let a = covers [] in ⊎_elim (λ l. inl (omega arith)) (λ l. inr ([], [], omega arith, refl)) (cases_lt 0 (times [] (paths done)))
     reach (onward e w) = reach w
     reach (taken {p} {n} {m} {s} i low high w) = go (reach w)
       where
@@ -182,24 +165,19 @@ module _ {S E : Type 0} (M : Machine S E) where
         go (inr b) = inr (b.0, b.1 ++ (i ∷ []), b.2, ap (λ (q : Path). q ++ (i ∷ [])) b.3 ∙ append_assoc b.0 b.1 (i ∷ []))
 
     pub once : (p : Path) → times p (paths done) ≤ 1
-    once p = go (cases_lt 1 (times p (paths done)))
-      where
-        go : (1 < times p (paths done)) ⊎ (times p (paths done) ≤ 1) → times p (paths done) ≤ 1
-        go (inl l) =
-            let f = has_found (λ (k : EndedEdge E). k.path) p done (omega arith) in
-            let d = all-has (Walked M) done f.0 walked f.1 in
-            let P : Path → Type 0 = λ q. times q (paths done) ≤ 1 in
-            subst P f.2 (most d.1)
-        go (inr l) = l
+    once p =
+        ⊎_elim
+        (λ l.
+        let f = has_found (λ (k : EndedEdge E). k.path) p done (omega arith) in
+        let P : Path → Type 0 = λ q. times q (paths done) ≤ 1 in
+        subst P f.2 (most (all-has (Walked M) done f.0 walked f.1).1))
+        (λ l. l)
+        (cases_lt 1 (times p (paths done)))
 
   module _ (done : List (EndedEdge E)) (walked : AllByRecursion (Walked M) done) (covers : (r : Path) → delta r [] + times r (all_children done) ≡ times r (paths done) + times r []) where
     -- and, with nothing open, at least once
     least : {p : Path} {n : ℕ} {s : S} {x : Standing E} → Walks M p n s x → 1 ≤ times p (paths done)
-    least {p} w = go (reach [] done walked covers w)
-      where
-        go : (1 ≤ times p (paths done)) ⊎ Beyond [] p → 1 ≤ times p (paths done)
-        go (inl h) = h
-        go (inr b) = let a = b.2 in absurd (omega arith)
+    least w = ⊎_elim (λ h. h) (λ b. absurd (omega (arith, b.2))) (reach [] done walked covers w)
 
     -- so the ended edges are all edges
     complete : Complete M (leaves_of done) (steps_of done)
