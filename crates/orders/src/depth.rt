@@ -1,4 +1,4 @@
-ghost use Rattle.std.specs.Prelude.{◌≡◌, [], reverse, IfOk};
+ghost use Rattle.std.specs.Prelude.{◌≡◌, [], reverse, IfOk, refl};
 ghost use Rattle.orders.specs.Rows.{InFront, FirstOut};
 ghost use Rattle.orders.specs.Held.{few_stacked};
 
@@ -30,7 +30,7 @@ impl Order for DepthFirst {
 
     ghost gives = { λ d r e. FirstOut (reverse d.stack.items) r (reverse e.stack.items) };
 
-    ghost few = { λ o. few_stacked o.stack.items o.stack.few };
+    ghost few = { λ o. few_stacked o.stack refl };
 
     fn clear(&mut self) {
         self.stack.clear();
