@@ -1,3 +1,2 @@
 pub mod Bagged
-mod Queues
 mod Fronts

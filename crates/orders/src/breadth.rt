@@ -1,7 +1,6 @@
-ghost use Rattle.std.specs.Prelude.{◌≡◌, ◌≤◌, [], IfOk};
-ghost use Rattle.std.specs.VecDeque.{deque_len, deque_capacity};
+ghost use Rattle.std.specs.Prelude.{◌≡◌, ◌≤◌, [], length, IfOk};
+ghost use Rattle.std.specs.VecDeque.{deque_capacity};
 ghost use Rattle.orders.specs.Rows.{Behind, FirstOut};
-ghost use Rattle.orders.specs.Held.{few_queued};
 
 use crate::branches::{Full, MOST_WAITING, Waiting};
 use crate::laws::Order;
@@ -13,7 +12,7 @@ use std::collections::VecDeque;
 pub struct BreadthFirst {
     queue: VecDeque<Waiting>,
     ghost room: { 256 ≤ deque_capacity queue },
-    ghost small: { deque_len queue ≤ 256 },
+    ghost small: { length queue.items ≤ 256 },
 }
 
 impl BreadthFirst {
@@ -33,7 +32,7 @@ impl Order for BreadthFirst {
 
     ghost gives = { λ d r e. FirstOut d.queue.items r e.queue.items };
 
-    ghost few = { λ o. few_queued o.queue.items (deque_len o.queue) o.queue.ok.0 o.small };
+    ghost few = { λ o. o.small };
 
     fn clear(&mut self) {
         self.queue.clear();
@@ -51,9 +50,6 @@ impl Order for BreadthFirst {
 
     // `remove(0)` is a `pop_front` whose contract keeps the capacity: nothing is shifted.
     fn give_up(&mut self) -> Option<u16> {
-        let Some(w) = self.queue.remove(0) else {
-            return None;
-        };
-        Some(w.number)
+        self.queue.remove(0).map(|w| w.number)
     }
 }

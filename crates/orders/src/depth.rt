@@ -1,17 +1,16 @@
-ghost use Rattle.std.specs.Prelude.{◌≡◌, ◌≤◌, [], reverse, IfOk, vec_len, vec_capacity};
+ghost use Rattle.std.specs.Prelude.{◌≡◌, [], reverse, IfOk, refl};
 ghost use Rattle.orders.specs.Rows.{InFront, FirstOut};
 ghost use Rattle.orders.specs.Held.{few_stacked};
 
 use crate::branches::{Full, MOST_WAITING, Waiting};
 use crate::laws::Order;
+use bounded::Bounded;
 use std::alloc::{AllocError, Global};
 
-// Gives up the first branch of the latest list: a stack, whose top is at the Vec's end.
+// Gives up the first branch of the latest list: a stack, whose top is at the list's end.
 #[derive(Drop)]
 pub struct DepthFirst {
-    stack: Vec<Waiting>,
-    ghost room: { 256 ≤ vec_capacity stack },
-    ghost small: { vec_len stack ≤ 256 },
+    stack: Bounded<Waiting, MOST_WAITING>,
 }
 
 impl DepthFirst {
@@ -19,7 +18,7 @@ impl DepthFirst {
     pub fn new(heap: Global) -> Result<DepthFirst, AllocError>
         ensures { IfOk result (λ d. reverse d.stack.items ≡ []) }
     {
-        let stack = Vec::with_capacity(heap, MOST_WAITING)?;
+        let stack = Bounded::new(heap)?;
         Ok(DepthFirst { stack })
     }
 }
@@ -31,7 +30,7 @@ impl Order for DepthFirst {
 
     ghost gives = { λ d r e. FirstOut (reverse d.stack.items) r (reverse e.stack.items) };
 
-    ghost few = { λ o. few_stacked o.stack.items (vec_len o.stack) o.stack.ok.0 o.small };
+    ghost few = { λ o. few_stacked o.stack refl };
 
     fn clear(&mut self) {
         self.stack.clear();
@@ -42,16 +41,12 @@ impl Order for DepthFirst {
             return Err(Full);
         }
         for w in list.iter().rev() {
-            self.stack.push_reserved(*w);
+            self.stack.push(*w).unwrap();
         }
         Ok(())
     }
 
     fn give_up(&mut self) -> Option<u16> {
-        if self.stack.is_empty() {
-            return None;
-        }
-        let w = self.stack.pop().unwrap();
-        Some(w.number)
+        self.stack.pop().map(|w| w.number)
     }
 }

@@ -1,5 +1,5 @@
 -- A change that fits is undone. Assumes nothing.
-use Rattle.std.proofs.Common.{◌≡◌, ℕ, suc, ◌+◌, ◌<◌, ◌≤◌, false, List, [], ◌∷◌, ◌++◌, length, set, vec_items, sym, refl, ap, ◌∙◌, ⊎_elim, arith, set-set, le-ltb, lt-ltb}
+use Rattle.std.proofs.Common.{◌≡◌, ℕ, suc, ◌+◌, ◌<◌, ◌≤◌, false, List, [], ◌∷◌, ◌++◌, length, set, sym, refl, ap, ◌∙◌, ⊎_elim, arith, set-set, le-ltb, lt-ltb}
 use lib.Seq.{set-get_or}
 use Rattle.std.proofs.lemmas.List.{map-append, length-map, length_push, length-set}
 use Rattle.std.proofs.lemmas.Bool.{cases_lt, cases_eq}
@@ -90,9 +90,9 @@ length_without i (x ∷ xs) =
 
 pub held_sound : HeldSound
 held_sound s = record {
-  rising = ap (ordered 0 s.store.next) (same_numbers (vec_items s.store.list)) ∙ s.store.rising;
-  few = omega (arith, length-map (vec_items s.store.list) stored, s.store.few, s.store.list.ok.0);
-  short = omega (arith, length-map (vec_items s.history.list) firing, s.history.few, s.history.list.ok.0);
+  rising = ap (ordered 0 s.store.next) (same_numbers s.store.list.items) ∙ s.store.rising;
+  few = omega (arith, length-map s.store.list.items stored, s.store.list.few);
+  short = omega (arith, length-map s.history.list.items firing, s.history.list.few);
   whole = s.cells.long;
 }
 

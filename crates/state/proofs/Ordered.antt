@@ -1,7 +1,8 @@
 -- Rising identifiers. Assumes nothing.
-use Rattle.std.proofs.Common.{◌≡◌, ℕ, zero, suc, ◌+◌, ◌<◌, ◌≤◌, Bool, true, false, not, ltb, List, [], ◌∷◌, ◌++◌, map, length, get_or, take, drop, sym, refl, ap, ◌∙◌, ⊎_elim, arith, ltb-true, le-ltb, lt-ltb, eq-eqb, ne_eqb}
+use Rattle.std.proofs.Common.{◌≡◌, ℕ, zero, suc, ◌+◌, ◌<◌, ◌≤◌, Bool, true, false, ltb, List, [], ◌∷◌, ◌++◌, map, take, drop, sym, refl, ap, ◌∙◌, ⊎_elim, arith, ltb-true, le-ltb, lt-ltb, eq-eqb, ne_eqb}
 use borrow.Author.Tests.{both_ways}
-use Rattle.std.proofs.lemmas.Bool.{cases_lt}
+use Rattle.std.proofs.lemmas.Bool.{cases_lt, cases_eq}
+use Rattle.std.specs.List.{remove}
 use Rattle.facts.specs.declared.fact.Stored.{Stored as CodeStored}
 use Rattle.facts.specs.Views.{stored}
 use Rattle.steps.specs.State.{Stored}
@@ -75,30 +76,37 @@ lower_past i x xs h = rw (lt-ltb x.identifier i h, lower)
 pub lower_here : (i : ℕ) (x : Stored) (xs : List Stored) → i ≤ x.identifier → lower i (x ∷ xs) ≡ 0
 lower_here i x xs h = rw (le-ltb x.identifier i h, lower)
 
-module _ (i : ℕ) (d : Stored) where
-  abbrev pub There : List Stored → Type 0
-  There xs = lower i xs < length xs → (get_or xs (lower i xs) d).identifier ≡ i → take (lower i xs) xs ++ drop (suc (lower i xs)) xs ≡ without (i ∷ []) xs
+pub among_more : (i j : ℕ) (js : List ℕ) → (i ≡ j → ⊥) → among i (j ∷ js) ≡ among i js
+among_more i j js h = rw (ne_eqb i j h)
 
-  -- at the place of an identifier stands its fact: without it
-  pub removed_there : (low high : ℕ) (xs : List Stored) → Rises low high (identifiers xs) → There xs
-  removed_there low high [] r = λ l e. absurd (omega arith)
-  removed_there low high (x ∷ xs) r =
-      ⊎_elim
-      (λ a. rw (lower_past i x xs a) (λ l e. ap (λ ys. x ∷ ys) (removed_there x.identifier high xs r.1 (omega arith) e) ∙ sym (kept_one i x xs (λ q. omega arith))))
-      (λ a. rw (lower_here i x xs a) (λ l e. sym (gone_one i x xs e ∙ all_higher i x.identifier high xs (omega arith) r.1)))
-      (cases_lt x.identifier i)
+pub among_first : (i j : ℕ) (js : List ℕ) → i ≡ j → among i (j ∷ js) ≡ true
+among_first i j js h = rw (eq-eqb i j h)
 
-  abbrev pub Absent : List Stored → Type 0
-  Absent xs = lower i xs < length xs → (get_or xs (lower i xs) d).identifier ≡ i → ⊥
+pub none_higher : (i n high : ℕ) (xs : List Stored) → i ≤ n → Rises n high (identifiers xs) → among i (identifiers xs) ≡ false
+none_higher i n high [] l r = refl
+none_higher i n high (x ∷ xs) l r = among_more i x.identifier (identifiers xs) (λ e. let a = r.0 in omega arith) ∙ none_higher i x.identifier high xs (let a = r.0 in omega arith) r.1
 
-  -- no other fact stands there: nothing to remove
-  pub removed_absent : (low high : ℕ) (xs : List Stored) → Rises low high (identifiers xs) → Absent xs → xs ≡ without (i ∷ []) xs
-  removed_absent low high [] r n = refl
-  removed_absent low high (x ∷ xs) r n =
-      ⊎_elim
-      (λ a. let m : Absent xs = λ l e. rw (lower_past i x xs a) at n (omega arith) e in ap (λ ys. x ∷ ys) (removed_absent x.identifier high xs r.1 m) ∙ sym (kept_one i x xs (λ q. omega arith)))
-      (λ a. sym (kept_one i x xs (λ q. rw (lower_here i x xs a) at n (omega arith) q) ∙ ap (λ ys. x ∷ ys) (all_higher i x.identifier high xs (omega arith) r.1)))
-      (cases_lt x.identifier i)
+-- at the place of an identifier that is there stands its fact: without it
+pub removed_there : (i low high : ℕ) (xs : List Stored) → Rises low high (identifiers xs) → among i (identifiers xs) ≡ true → remove xs (lower i xs) ≡ without (i ∷ []) xs
+removed_there i low high [] r t = absurd (both_ways false refl t)
+removed_there i low high (x ∷ xs) r t =
+    ⊎_elim
+    (λ a. rw (lower_past i x xs a) (ap (λ ys. x ∷ ys) (removed_there i x.identifier high xs r.1 (sym (among_more i x.identifier (identifiers xs) (λ q. omega arith)) ∙ t)) ∙ sym (kept_one i x xs (λ q. omega arith))))
+    (λ a. rw (lower_here i x xs a) (sym (gone_one i x xs (here a) ∙ all_higher i x.identifier high xs (omega arith) r.1)))
+    (cases_lt x.identifier i)
+  where
+    here : i ≤ x.identifier → x.identifier ≡ i
+    here a =
+        ⊎_elim (λ e. e)
+        (λ n. absurd (both_ways _ (among_more i x.identifier (identifiers xs) (λ e. n (sym e)) ∙ none_higher i x.identifier high xs a r.1) t))
+        (cases_eq x.identifier i)
+
+-- an identifier that is not there: nothing to remove
+pub removed_absent : (i : ℕ) (xs : List Stored) → among i (identifiers xs) ≡ false → without (i ∷ []) xs ≡ xs
+removed_absent i [] n = refl
+removed_absent i (x ∷ xs) n =
+    let other : x.identifier ≡ i → ⊥ = λ e. both_ways _ n (among_first i x.identifier (identifiers xs) (sym e)) in
+    kept_one i x xs other ∙ ap (λ ys. x ∷ ys) (removed_absent i xs (sym (among_more i x.identifier (identifiers xs) (λ e. other (sym e))) ∙ n))
 
 -- a fact among others stands behind those of lower identifiers
 pub placed_at : (f : Stored) (xs : List Stored) → placed f xs ≡ take (lower f.identifier xs) xs ++ (f ∷ drop (lower f.identifier xs) xs)
@@ -110,44 +118,16 @@ placed_at f (x ∷ xs) =
     (cases_lt x.identifier f.identifier)
 
 -- a fact that is not there finds its place among rising ones
-pub rises_placed : (f : Stored) (d : Stored) (low high : ℕ) (xs : List Stored) → Rises low high (identifiers xs) → low < f.identifier → f.identifier < high → Absent f.identifier d xs →
+pub rises_placed : (f : Stored) (low high : ℕ) (xs : List Stored) → Rises low high (identifiers xs) → low < f.identifier → f.identifier < high → among f.identifier (identifiers xs) ≡ false →
     Rises low high (identifiers (placed f xs))
-rises_placed f d low high [] r a b n = (a, b)
-rises_placed f d low high (x ∷ xs) r a b n =
+rises_placed f low high [] r a b n = (a, b)
+rises_placed f low high (x ∷ xs) r a b n =
+    let other : f.identifier ≡ x.identifier → ⊥ = λ e. both_ways _ n (among_first f.identifier x.identifier (identifiers xs) e) in
+    let rest : among f.identifier (identifiers xs) ≡ false = sym (among_more f.identifier x.identifier (identifiers xs) other) ∙ n in
     ⊎_elim
-    (λ p. let m : Absent f.identifier d xs = λ l e. rw (lower_past f.identifier x xs p) at n (omega arith) e in rw (lt-ltb x.identifier f.identifier p, placed) (r.0, rises_placed f d x.identifier high xs r.1 p b m))
-    (λ p. let q : f.identifier < x.identifier = above p (λ e. rw (lower_here f.identifier x xs p) at n (omega arith) e) in rw (le-ltb x.identifier f.identifier p, placed) (a, (q, r.1)))
+    (λ p. rw (lt-ltb x.identifier f.identifier p, placed) (r.0, rises_placed f x.identifier high xs r.1 p b rest))
+    (λ p. let q : f.identifier < x.identifier = omega (arith, other) in rw (le-ltb x.identifier f.identifier p, placed) (a, (q, r.1)))
     (cases_lt x.identifier f.identifier)
-  where
-    above : f.identifier ≤ x.identifier → (x.identifier ≡ f.identifier → ⊥) → f.identifier < x.identifier
-    above p h = ⊎_elim (λ l. l) (λ g. absurd (h (omega arith))) (cases_lt f.identifier x.identifier)
-
-pub among_more : (i j : ℕ) (js : List ℕ) → (i ≡ j → ⊥) → among i (j ∷ js) ≡ among i js
-among_more i j js h = rw (ne_eqb i j h)
-
-none_higher : (i n high : ℕ) (xs : List Stored) → i ≤ n → Rises n high (identifiers xs) → among i (identifiers xs) ≡ false
-none_higher i n high [] l r = refl
-none_higher i n high (x ∷ xs) l r = among_more i x.identifier (identifiers xs) (λ e. let a = r.0 in omega arith) ∙ none_higher i x.identifier high xs (let a = r.0 in omega arith) r.1
-
--- whether an identifier is there
-pub absent_among : (i : ℕ) (d : Stored) (low high : ℕ) (xs : List Stored) → Rises low high (identifiers xs) → Absent i d xs → among i (identifiers xs) ≡ false
-absent_among i d low high [] r n = refl
-absent_among i d low high (x ∷ xs) r n =
-    ⊎_elim
-    (λ p. let m : Absent i d xs = λ l e. rw (lower_past i x xs p) at n (omega arith) e in among_more i x.identifier (identifiers xs) (λ e. omega arith) ∙ absent_among i d x.identifier high xs r.1 m)
-    (λ p. among_more i x.identifier (identifiers xs) (λ e. rw (lower_here i x xs p) at n (omega arith) (sym e)) ∙ none_higher i x.identifier high xs p r.1)
-    (cases_lt x.identifier i)
-
-among_first : (i j : ℕ) (js : List ℕ) → i ≡ j → among i (j ∷ js) ≡ true
-among_first i j js h = rw (eq-eqb i j h)
-
-pub there_among : (i : ℕ) (d : Stored) (xs : List Stored) → lower i xs < length xs → (get_or xs (lower i xs) d).identifier ≡ i → among i (identifiers xs) ≡ true
-there_among i d [] l e = absurd (omega arith)
-there_among i d (x ∷ xs) l e =
-    ⊎_elim
-    (λ p. let k = rw (lower_past i x xs p) at l in let f = rw (lower_past i x xs p) at e in among_more i x.identifier (identifiers xs) (λ q. omega arith) ∙ there_among i d xs (omega (arith, k)) f)
-    (λ p. among_first i x.identifier (identifiers xs) (sym (rw (lower_here i x xs p) at e)))
-    (cases_lt x.identifier i)
 
 -- the identifier of the last
 pub last_is : (n : ℕ) (xs : List Stored) (x : Stored) → last_or n (xs ++ (x ∷ [])) ≡ x.identifier

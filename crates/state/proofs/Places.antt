@@ -1,7 +1,12 @@
 -- Facts of the store as the code holds them: where they stand, and what a move makes of them. Assumes nothing.
-use Rattle.std.proofs.Common.{◌≡◌, ℕ, suc, ◌+◌, ◌<◌, ◌≤◌, Bool, true, false, not, ◌&&◌, eqb, ltb, List, [], ◌∷◌, ◌++◌, map, length, get_or, take, drop, sym, refl, ap, ◌∙◌, subst, ⊎_elim, add-one, arith, le-ltb, lt-ltb, eq-eqb, ne_eqb}
-use Rattle.std.proofs.lemmas.List.{map-append, length-map, drop_more, drop_all, get_or-map, take-map, drop-map}
-use Rattle.std.proofs.lemmas.Bool.{and_right, cases_lt}
+use Rattle.std.proofs.Common.{◌≡◌, ℕ, zero, suc, ◌+◌, ◌<◌, ◌≤◌, true, false, List, [], ◌∷◌, ◌++◌, map, length, get_or, take, drop, Result, Ok, Err, sym, refl, ap, ◌∙◌, subst, ⊎_elim, arith, lt-ltb, eq-eqb}
+use Rattle.std.specs.List.{insert, remove}
+use Rattle.std.specs.List.Sorted.{IsSearchInRange, IsBinarySearchResult, IsNonDecreasingBy}
+use Rattle.std.specs.Ordering.{nat_cmp, ordering_index}
+use Rattle.std.proofs.lemmas.Cmp.{ranked}
+use Rattle.std.proofs.lemmas.List.{map-append, take-map, drop-map}
+use Rattle.std.proofs.lemmas.Bool.{cases_lt}
+use Rattle.std.proofs.lemmas.Bool.Decides.{nat_tests}
 use Rattle.facts.specs.declared.fact.Stored.{Stored as CodeStored}
 use Rattle.facts.specs.Views.{stored}
 use Rattle.steps.specs.State.{Stored}
@@ -9,9 +14,9 @@ use Rattle.steps.specs.Matching.{among}
 use Rattle.steps.specs.Relations.{identifiers}
 use Rattle.steps.specs.Step.{without}
 use Rattle.state.specs.Orders.{ordered, numbers}
-use Rattle.state.specs.Stores.{placed, lower, last_or, may_return, returned, may_follow, followed, followed_next}
+use Rattle.state.specs.Stores.{Place, placed, lower, last_or, may_return, returned, may_follow, followed, followed_next}
 use Rattle.state.proofs.Ends.{pushed_on}
-use Rattle.state.proofs.Ordered.{Rises, rises, ordered_by, rises_push, rises_pop, rises_less, Absent, removed_there, removed_absent, placed_at, rises_placed, absent_among, there_among, last_is, same_numbers, lower_past, lower_here}
+use Rattle.state.proofs.Ordered.{Rises, rises, ordered_by, rises_push, rises_pop, rises_less, removed_there, placed_at, rises_placed, among_more, among_first, last_is, same_numbers, lower_past, lower_here}
 
 abbrev Facts : Type 0
 Facts = List CodeStored
@@ -39,46 +44,89 @@ popped_next next items new x e = sym (ap (last_or next) (pushed_on stored new it
 pub follows : (next : ℕ) (f : Stored) (xs : List Stored) → f.identifier ≡ next → next < 65535 → length xs < 128 → may_follow next f xs ≡ true
 follows next f xs i n l = rw (eq-eqb f.identifier next i, lt-ltb next 65535 n, lt-ltb (length xs) 128 l)
 
-pub other_next : (next : ℕ) (f : Stored) (xs : List Stored) → (f.identifier ≡ next → ⊥) → may_follow next f xs ≡ false
-other_next next f xs h = rw (ne_eqb f.identifier next h)
-
-pub none_left : (next : ℕ) (f : Stored) (xs : List Stored) → 65535 ≤ next → may_follow next f xs ≡ false
-none_left next f xs h = rw (le-ltb next 65535 h) (and_right (eqb f.identifier next) false refl)
-
-pub no_room : (next : ℕ) (f : Stored) (xs : List Stored) → 128 ≤ length xs → may_follow next f xs ≡ false
-no_room next f xs h = rw (le-ltb (length xs) 128 h) (and_right (eqb f.identifier next) (ltb next 65535 && false) (and_right (ltb next 65535) false refl))
-
 pub followed_yes : (next : ℕ) (f : Stored) (xs : List Stored) → may_follow next f xs ≡ true → (followed next f xs ≡ xs ++ (f ∷ [])) × (followed_next next f xs ≡ next + 1)
 followed_yes next f xs e = (rw (e, followed), rw (e, followed_next))
 
-pub followed_no : (next : ℕ) (f : Stored) (xs : List Stored) → may_follow next f xs ≡ false → (followed next f xs ≡ xs) × (followed_next next f xs ≡ next)
-followed_no next f xs e = (rw (e, followed), rw (e, followed_next))
+module _ {X Y : Type 0} (f : X → Y) (xs : List X) (i : ℕ) where
+  map-remove : map f (remove xs i) ≡ remove (map f xs) i
+  map-remove = rw (map-append f (take i xs) (drop (suc i) xs), take-map f i xs, drop-map f (suc i) xs)
 
-module _ (i : ℕ) (items : Facts) (at : ℕ) where
-  rest : (x : CodeStored) → x ≡ get_or items at x → at < length items → drop at (map stored items) ≡ stored x ∷ drop (at + 1) (map stored items)
-  rest x e h =
-      drop-map stored at items ∙ ap (map stored) (drop_more items at x h) ∙ ap (λ y. stored y ∷ map stored (drop (at + 1) items)) (sym e) ∙ ap (λ l. stored x ∷ l) (sym (drop-map stored (at + 1) items))
+  map-insert : (x : X) → map f (insert xs i x) ≡ insert (map f xs) i (f x)
+  map-insert x = rw (map-append f (take i xs) (x ∷ drop i xs), take-map f i xs, drop-map f i xs)
 
-  abbrev pub Passed : ℕ → Type 0
-  Passed n = lower i (map stored items) ≡ n + lower i (drop n (map stored items))
+-- each number is above the lower end
+above : (low high : ℕ) (items : Facts) (at : ℕ) (d : CodeStored) → Rises low high (numbers items) → at < length items → low < (get_or items at d).identifier
+above low high [] at d r l = absurd (omega arith)
+above low high (x ∷ xs) zero d r l = r.0
+above low high (x ∷ xs) (suc at) d r l = let a = above x.identifier high xs at d r.1 (omega arith) in let b = r.0 in omega arith
 
-  -- a fact of a lower identifier
-  pub one_passed : (x : CodeStored) → x ≡ get_or items at x → at < length items → x.identifier < i → Passed at → Passed (at + 1)
-  one_passed x e h l p =
-      let q : lower i (drop at (map stored items)) ≡ suc (lower i (drop (at + 1) (map stored items))) = ap (lower i) (rest x e h) ∙ lower_past i (stored x) (drop (at + 1) (map stored items)) l in
-      omega (arith, p, q)
+-- none falls
+none_falls : (low high : ℕ) (items : Facts) → Rises low high (numbers items) → IsNonDecreasingBy (λ f. f.identifier) items
+none_falls low high [] r a b d le l = absurd (omega arith)
+none_falls low high (x ∷ xs) r zero zero d le l = omega arith
+none_falls low high (x ∷ xs) r zero (suc b) d le l = let h = above x.identifier high xs b d r.1 (omega arith) in omega arith
+none_falls low high (x ∷ xs) r (suc a) zero d le l = absurd (omega arith)
+none_falls low high (x ∷ xs) r (suc a) (suc b) d le l = none_falls x.identifier high xs r.1 a b d (omega arith) (omega arith)
 
-  -- the first of a higher one
-  pub stops : (x : CodeStored) → x ≡ get_or items at x → at < length items → i ≤ x.identifier → Passed at → at ≡ lower i (map stored items)
-  stops x e h l p =
-      let q : lower i (drop at (map stored items)) ≡ 0 = ap (lower i) (rest x e h) ∙ lower_here i (stored x) (drop (at + 1) (map stored items)) l in
-      omega (arith, p, q)
+module _ (i : ℕ) where
+  -- a fact of the identifier is at its place
+  found_at : (low high : ℕ) (items : Facts) (at : ℕ) → Rises low high (numbers items) → at < length items → ((d : CodeStored) → (get_or items at d).identifier ≡ i) → Place i (map stored items) (Ok at)
+  found_at low high [] at r l e = absurd (omega arith)
+  found_at low high (x ∷ xs) zero r l e =
+      let q : x.identifier ≡ i = e x in
+      (sym (lower_here i (stored x) (map stored xs) (omega arith)), among_first i x.identifier (identifiers (map stored xs)) (sym q))
+  found_at low high (x ∷ xs) (suc at) r l e =
+      let h = found_at x.identifier high xs at r.1 (omega arith) e in
+      let up : x.identifier < i = omega (arith, above x.identifier high xs at x r.1 (omega arith), e x) in
+      (ap suc h.0 ∙ sym (lower_past i (stored x) (map stored xs) up), among_more i x.identifier (identifiers (map stored xs)) (λ q. omega arith) ∙ h.1)
 
-  -- none is left
-  pub all_passed : length items ≤ at → Passed at → at ≡ lower i (map stored items)
-  all_passed h p =
-      let q : lower i (drop at (map stored items)) ≡ 0 = ap (lower i) (drop-map stored at items ∙ ap (map stored) (drop_all at items h)) in
-      omega (arith, p, q)
+  -- between the facts of lower identifiers and those of higher ones is the place of one that is not there
+  gap_at : (items : Facts) (at : ℕ) → at ≤ length items → ((k : ℕ) (d : CodeStored) → k < at → (get_or items k d).identifier < i)
+      → ((k : ℕ) (d : CodeStored) → at ≤ k → k < length items → i < (get_or items k d).identifier) → Place i (map stored items) (Err at)
+  gap_at [] zero l low up = (refl, refl)
+  gap_at [] (suc at) l low up = absurd (omega arith)
+  gap_at (x ∷ xs) zero l low up =
+      let h = gap_at xs zero (omega arith) (λ k d b. absurd (omega arith)) (λ k d a b. up (suc k) d (omega arith) (omega arith)) in
+      let q : i < x.identifier = up 0 x (omega arith) (omega arith) in
+      (sym (lower_here i (stored x) (map stored xs) (omega arith)), among_more i x.identifier (identifiers (map stored xs)) (λ e. omega arith) ∙ h.1)
+  gap_at (x ∷ xs) (suc at) l low up =
+      let h = gap_at xs at (omega arith) (λ k d b. low (suc k) d (omega arith)) (λ k d a b. up (suc k) d (omega arith) (omega arith)) in
+      let q : x.identifier < i = low 0 x (omega arith) in
+      (ap suc h.0 ∙ sym (lower_past i (stored x) (map stored xs) q), among_more i x.identifier (identifiers (map stored xs)) (λ e. omega arith) ∙ h.1)
+
+  -- a binary search ends at the place
+  pub searched : (next : ℕ) (items : Facts) (r : Result ℕ ℕ) → ordered 0 next (numbers items) ≡ true → IsSearchInRange r (length items) → IsBinarySearchResult (λ f. nat_cmp f.identifier i) items r → Place i (map stored items) r
+  searched next items (Ok at) up l e = found_at 0 next items at (rises 0 next (numbers items) up) l (λ d. ranked _ i _ (sym (e d)))
+  searched next items (Err at) up l e =
+      let rise : IsNonDecreasingBy (λ f. ordering_index (nat_cmp f.identifier i)) items = λ a b d le h.
+      let n = none_falls 0 next items (rises 0 next (numbers items) up) a b d le h in grind (arith, nat_tests) in
+      gap_at items at l (λ k d b. ranked _ i _ (sym ((e rise).0 k d (omega arith) b))) (λ k d a b. ranked _ i _ (sym ((e rise).1 k d a b)))
+
+-- the fact of an identifier that is there goes
+module _ (next at : ℕ) (items new : Facts) (w : new ≡ remove items at) (r : ordered 0 next (numbers items) ≡ true) where
+  pub taken_rising : ordered 0 next (numbers new) ≡ true
+  taken_rising = rw (w, map-remove (λ f. f.identifier) items at) (ordered_by 0 next (remove (numbers items) at) (rises_less 0 next (numbers items) at (rises 0 next (numbers items) r)))
+
+  pub taken_facts : (i : ℕ) → Place i (map stored items) (Ok at) → map stored new ≡ without (i ∷ []) (map stored items)
+  taken_facts i p =
+      ap (map stored) w ∙ map-remove stored items at ∙ ap (remove (map stored items)) p.0 ∙ removed_there i 0 next (map stored items) (rising next items r) p.1
+
+-- a fact that is not there comes back
+module _ (next at : ℕ) (f : CodeStored) (items new : Facts) (w : new ≡ insert items at f) (p : Place f.identifier (map stored items) (Err at)) where
+  pub back_facts : map stored new ≡ placed (stored f) (map stored items)
+  back_facts = ap (map stored) w ∙ map-insert stored items at f ∙ ap (λ k. insert (map stored items) k (stored f)) p.0 ∙ sym (placed_at (stored f) (map stored items))
+
+  pub back_rising : 0 < f.identifier → f.identifier < next → ordered 0 next (numbers items) ≡ true → ordered 0 next (numbers new) ≡ true
+  back_rising a b r =
+      let all : numbers new ≡ identifiers (placed (stored f) (map stored items)) = sym (same_numbers new) ∙ ap identifiers back_facts in
+      rw all (ordered_by 0 next (identifiers (placed (stored f) (map stored items))) (rises_placed (stored f) 0 next (map stored items) (rising next items r) a b p.1))
+
+-- whether a fact can come back
+pub may_come : (next : ℕ) (f : Stored) (xs : List Stored) → 0 < f.identifier → f.identifier < next → among f.identifier (identifiers xs) ≡ false → length xs < 128 → may_return next f xs ≡ true
+may_come next f xs a b n l = rw (lt-ltb 0 f.identifier a, lt-ltb f.identifier next b, n, lt-ltb (length xs) 128 l)
+
+pub returned_yes : (next : ℕ) (f : Stored) (xs : List Stored) → may_return next f xs ≡ true → returned next f xs ≡ placed f xs
+returned_yes next f xs e = rw (e, returned)
 
 -- a place is not past the end
 pub lower_most : (i : ℕ) (xs : List Stored) → lower i xs ≤ length xs
@@ -88,93 +136,3 @@ lower_most i (x ∷ xs) =
     (λ a. rw (lower_past i x xs a) (let h = lower_most i xs in omega arith))
     (λ a. rw (lower_here i x xs a) (omega arith))
     (cases_lt x.identifier i)
-
-pub place_most : (i : ℕ) (items : Facts) (at : ℕ) → at ≡ lower i (map stored items) → at ≤ length items
-place_most i items at e = let h = lower_most i (map stored items) in let l = length-map items stored in omega (arith, h, l, e)
-
--- some fact, for places that no fact has
-abbrev pub nothing : Stored
-nothing = record { identifier = 0; fact = record { predicate = 0; arguments = [] } }
-
-module _ (i : ℕ) (items : Facts) (at : ℕ) (place : at ≡ lower i (map stored items)) where
-  read : (x : CodeStored) (d : Stored) → x ≡ get_or items at x → at < length items → get_or (map stored items) (lower i (map stored items)) d ≡ stored x
-  read x d e h = ap (λ k. get_or (map stored items) k d) (sym place) ∙ get_or-map stored items at x d h ∙ ap stored (sym e)
-
-  inside : at < length items → lower i (map stored items) < length (map stored items)
-  inside h = let l = length-map items stored in omega (arith, h, l, place)
-
-  -- another fact stands at the place
-  pub another : (x : CodeStored) → x ≡ get_or items at x → at < length items → (x.identifier ≡ i → ⊥) → Absent i nothing (map stored items)
-  another x e h n = λ l q. n (sym (ap (λ f. f.identifier) (read x nothing e h)) ∙ q)
-
-  -- no fact stands there
-  pub past : length items ≤ at → Absent i nothing (map stored items)
-  past h = λ l q. let m = length-map items stored in omega (arith, h, l, m, place)
-
-  module _ (x : CodeStored) (e : x ≡ get_or items at x) (h : at < length items) (q : x.identifier ≡ i) where
-    same : (get_or (map stored items) (lower i (map stored items)) nothing).identifier ≡ i
-    same = ap (λ f. f.identifier) (read x nothing e h) ∙ q
-
-    -- its fact stands there
-    pub there : among i (identifiers (map stored items)) ≡ true
-    there = there_among i nothing (map stored items) (inside h) same
-
-    pub taken_facts : (next : ℕ) (new : Facts) → ordered 0 next (numbers items) ≡ true → new ≡ take at items ++ drop (at + 1) items → map stored new ≡ without (i ∷ []) (map stored items)
-    taken_facts next new r w =
-        ap (map stored) w ∙ map-append stored (take at items) (drop (at + 1) items) ∙ ap (λ l. l ++ map stored (drop (at + 1) items)) (sym (take-map stored at items))
-        ∙ ap (λ l. take at (map stored items) ++ l) (sym (drop-map stored (at + 1) items)) ∙ ap (λ k. take at (map stored items) ++ drop k (map stored items)) (add-one at)
-        ∙ ap (λ k. take k (map stored items) ++ drop (suc k) (map stored items)) place ∙ removed_there i nothing 0 next (map stored items) (rising next items r) (inside h) same
-
--- one of them goes
-pub taken_rising : (next at : ℕ) (items new : Facts) → new ≡ take at items ++ drop (at + 1) items → ordered 0 next (numbers items) ≡ true → ordered 0 next (numbers new) ≡ true
-taken_rising next at items new w r =
-    let all : numbers new ≡ take at (numbers items) ++ drop (suc at) (numbers items) =
-    ap numbers w ∙ map-append (λ f. f.identifier) (take at items) (drop (at + 1) items) ∙ ap (λ l. l ++ numbers (drop (at + 1) items)) (sym (take-map (λ f. f.identifier) at items))
-    ∙ ap (λ l. take at (numbers items) ++ l) (sym (drop-map (λ f. f.identifier) (at + 1) items)) ∙ ap (λ k. take at (numbers items) ++ drop k (numbers items)) (add-one at) in
-    rw all (ordered_by 0 next (take at (numbers items) ++ drop (suc at) (numbers items)) (rises_less 0 next (numbers items) at (rises 0 next (numbers items) r)))
-
--- nothing to remove
-pub kept_facts : (i next : ℕ) (items : Facts) → ordered 0 next (numbers items) ≡ true → Absent i nothing (map stored items) → map stored items ≡ without (i ∷ []) (map stored items)
-kept_facts i next items r n = removed_absent i nothing 0 next (map stored items) (rising next items r) n
-
--- a fact comes back to its place
-pub back_facts : (f : CodeStored) (items new : Facts) (at : ℕ) → at ≡ lower f.identifier (map stored items) → new ≡ take at items ++ (f ∷ drop at items) → map stored new ≡ placed (stored f) (map stored items)
-back_facts f items new at p w =
-    ap (map stored) w ∙ map-append stored (take at items) (f ∷ drop at items) ∙ ap (λ l. l ++ (stored f ∷ map stored (drop at items))) (sym (take-map stored at items))
-    ∙ ap (λ l. take at (map stored items) ++ (stored f ∷ l)) (sym (drop-map stored at items)) ∙ ap (λ k. take k (map stored items) ++ (stored f ∷ drop k (map stored items))) p
-    ∙ sym (placed_at (stored f) (map stored items))
-
-pub back_rising : (f : CodeStored) (next : ℕ) (items new : Facts) → map stored new ≡ placed (stored f) (map stored items) → 0 < f.identifier → f.identifier < next → Absent f.identifier nothing (map stored items) →
-    ordered 0 next (numbers items) ≡ true → ordered 0 next (numbers new) ≡ true
-back_rising f next items new w a b n r =
-    let all : numbers new ≡ identifiers (placed (stored f) (map stored items)) = sym (same_numbers new) ∙ ap identifiers w in
-    rw all (ordered_by 0 next (identifiers (placed (stored f) (map stored items))) (rises_placed (stored f) nothing 0 next (map stored items) (rising next items r) a b n))
-
--- whether a fact can come back
-pub may_come : (next : ℕ) (f : Stored) (xs : List Stored) → 0 < f.identifier → f.identifier < next → among f.identifier (identifiers xs) ≡ false → length xs < 128 → may_return next f xs ≡ true
-may_come next f xs a b n l = rw (lt-ltb 0 f.identifier a, lt-ltb f.identifier next b, n, lt-ltb (length xs) 128 l)
-
-pub absent_come : (f : Stored) (next : ℕ) (items : Facts) → ordered 0 next (numbers items) ≡ true → Absent f.identifier nothing (map stored items) → among f.identifier (identifiers (map stored items)) ≡ false
-absent_come f next items r n = absent_among f.identifier nothing 0 next (map stored items) (rising next items r) n
-
-pub zero_stays : (next : ℕ) (f : Stored) (xs : List Stored) → f.identifier ≡ 0 → may_return next f xs ≡ false
-zero_stays next f xs e = rw (le-ltb 0 f.identifier (omega arith))
-
-pub later_stays : (next : ℕ) (f : Stored) (xs : List Stored) → next ≤ f.identifier → may_return next f xs ≡ false
-later_stays next f xs h = rw (le-ltb f.identifier next h) (and_right (ltb 0 f.identifier) false refl)
-
-pub full_stays : (next : ℕ) (f : Stored) (xs : List Stored) → 128 ≤ length xs → may_return next f xs ≡ false
-full_stays next f xs h =
-    let a = ltb 0 f.identifier in
-    let b = ltb f.identifier next in
-    let d = not (among f.identifier (identifiers xs)) in
-    rw (le-ltb (length xs) 128 h) (and_right a (b && (d && false)) (and_right b (d && false) (and_right d false refl)))
-
-pub there_stays : (next : ℕ) (f : Stored) (xs : List Stored) → among f.identifier (identifiers xs) ≡ true → may_return next f xs ≡ false
-there_stays next f xs e = rw e (and_right (ltb 0 f.identifier) (ltb f.identifier next && false) (and_right (ltb f.identifier next) false refl))
-
-pub returned_yes : (next : ℕ) (f : Stored) (xs : List Stored) → may_return next f xs ≡ true → returned next f xs ≡ placed f xs
-returned_yes next f xs e = rw (e, returned)
-
-pub returned_no : (next : ℕ) (f : Stored) (xs : List Stored) → may_return next f xs ≡ false → returned next f xs ≡ xs
-returned_no next f xs e = rw (e, returned)

@@ -1,12 +1,12 @@
 -- The execution stack as the list of its entries, the top first. Assumes nothing.
-use Rattle.std.specs.Prelude.{true, false, List, [], ◌∷◌, map, reverse, length, Some, None, vec_items, Option, nat_lt}
+use Rattle.std.specs.Prelude.{true, false, List, [], ◌∷◌, map, reverse, length, Some, None, Option, nat_lt}
 use Rattle.facts.specs.Views.{entry}
 use Rattle.facts.specs.declared.entry.Entry.{Entry}
 use Rattle.steps.specs.State as model
 use Rattle.state.specs.declared.stack.Stack.{Stack}
 
-unfoldable pub entries : Stack → List model.Entry
-entries s = reverse (map entry (vec_items s.list))
+abbrev pub entries : Stack → List model.Entry
+entries s = reverse (map entry s.list.items)
 
 abbrev pub entry_if : Option Entry → Option model.Entry
 entry_if None = None

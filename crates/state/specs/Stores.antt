@@ -1,5 +1,5 @@
 -- The store as the list of its facts, and how facts are added, removed and put back. Assumes nothing.
-use Rattle.std.specs.Prelude.{◌≡◌, ℕ, suc, ◌+◌, ◌<◌, ◌≤◌, Bool, true, false, not, ◌&&◌, ◌⊎◌, List, [], ◌∷◌, ◌++◌, map, length, Some, None, vec_items, Option, ◌==◌, nat_lt}
+use Rattle.std.specs.Prelude.{◌≡◌, ℕ, suc, ◌+◌, ◌<◌, ◌≤◌, Bool, true, false, not, ◌&&◌, ◌⊎◌, List, [], ◌∷◌, ◌++◌, map, length, Some, None, Option, Ok, Err, Result, ◌==◌, nat_lt}
 use Rattle.facts.specs.Views.{stored}
 use Rattle.facts.specs.declared.fact.Stored.{Stored as CodeStored}
 use Rattle.steps.specs.State as model
@@ -9,7 +9,7 @@ use Rattle.steps.specs.Relations.{identifiers}
 use Rattle.state.specs.declared.store.Store.{Store}
 
 abbrev pub facts_of : Store → List Stored
-facts_of s = map stored (vec_items s.list)
+facts_of s = map stored s.list.items
 
 -- a fact among others, in the order of identifiers
 abbrev pub placed : Stored → List Stored → List Stored
@@ -33,6 +33,11 @@ may_follow next f xs = f.identifier == next && (nat_lt next 65535 && nat_lt (len
 abbrev pub lower : ℕ → List Stored → ℕ
 lower i [] = 0
 lower i (x ∷ xs) = elim (nat_lt x.identifier i) [ true ↦ suc (lower i xs) | false ↦ 0 ]
+
+-- where the fact of an identifier stands; or, if it is not there, where it would: behind those of lower identifiers
+abbrev pub Place : ℕ → List Stored → Result ℕ ℕ → Type 0
+Place i xs (Ok at) = (at ≡ lower i xs) × (among i (identifiers xs) ≡ true)
+Place i xs (Err at) = (at ≡ lower i xs) × (among i (identifiers xs) ≡ false)
 
 -- a fact is added again, and the next identifier rises, if it can be
 abbrev pub followed : ℕ → Stored → List Stored → List Stored

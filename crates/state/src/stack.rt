@@ -1,8 +1,7 @@
 // The execution stack.
-ghost use Rattle.std.specs.Prelude.{◌≤◌, vec_len, vec_capacity};
-
 mod moves;
 
+use bounded::Bounded;
 use facts::entry::Entry;
 
 pub const MOST_ENTRIES: usize = 128;
@@ -10,7 +9,5 @@ pub const MOST_ENTRIES: usize = 128;
 // At most 128 entries, the top last in the list.
 #[derive(Drop)]
 pub struct Stack {
-    list: Vec<Entry>,
-    ghost room: { 128 ≤ vec_capacity list },
-    ghost few: { vec_len list ≤ 128 },
+    list: Bounded<Entry, MOST_ENTRIES>,
 }

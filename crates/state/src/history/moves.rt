@@ -4,7 +4,8 @@ ghost use Rattle.facts.specs.Views.{firing};
 ghost use Rattle.state.specs.Lists.{all_but_last};
 ghost use Rattle.state.specs.Histories.{firings_of, with_firing};
 
-use super::{History, MOST_FIRINGS};
+use super::History;
+use bounded::Bounded;
 use facts::entry::Firing;
 use std::alloc::{AllocError, Global};
 
@@ -13,7 +14,7 @@ impl History {
     pub fn new(heap: Global) -> Result<History, AllocError>
         ensures { IfOk result (λ h. firings_of h ≡ []) }
     {
-        let list = Vec::with_capacity(heap, MOST_FIRINGS)?;
+        let list = Bounded::new(heap)?;
         Ok(History { list })
     }
 
@@ -21,7 +22,7 @@ impl History {
     pub fn list(&self) -> &[Firing]
         ensures { map firing result.now ≡ firings_of self.now }
     {
-        &self.list
+        self.list.as_slice()
     }
 
     // How many firings there are.
@@ -42,9 +43,7 @@ impl History {
     pub fn record(&mut self, fired: Firing)
         ensures { firings_of self.new ≡ with_firing (firing fired) (firings_of self.old) }
     {
-        if self.list.len() < MOST_FIRINGS {
-            self.list.push_reserved(fired);
-        }
+        let _ = self.list.push(fired);
     }
 
     // The last firing goes, if there is one.

@@ -44,8 +44,8 @@ impl State {
     pub fn undo_all(&mut self, changes: &[Change])
         ensures { state self.new ≡ undone (map the-change changes.now) (state self.old) }
     {
-        for at in (0..changes.len()).rev() {
-            self.undo(changes[at]);
+        for change in changes.iter().rev() {
+            self.undo(*change);
         }
     }
 }

@@ -3,7 +3,8 @@ ghost use Rattle.std.specs.Prelude.{◌≡◌, [], length, IfOk};
 ghost use Rattle.facts.specs.Views.{entry};
 ghost use Rattle.state.specs.Stacks.{entries, entry_if, first, below, pushed};
 
-use super::{MOST_ENTRIES, Stack};
+use super::Stack;
+use bounded::Bounded;
 use facts::entry::Entry;
 use std::alloc::{AllocError, Global};
 
@@ -12,7 +13,7 @@ impl Stack {
     pub fn new(heap: Global) -> Result<Stack, AllocError>
         ensures { IfOk result (λ s. entries s ≡ []) }
     {
-        let list = Vec::with_capacity(heap, MOST_ENTRIES)?;
+        let list = Bounded::new(heap)?;
         Ok(Stack { list })
     }
 
@@ -27,11 +28,7 @@ impl Stack {
     pub fn top(&self) -> Option<Entry>
         ensures { entry_if result ≡ first (entries self.now) }
     {
-        let n = self.list.len();
-        if n == 0 {
-            return None;
-        }
-        Some(self.list[n - 1])
+        self.list.last().copied()
     }
 
     // Nothing stands on it any more.
@@ -52,8 +49,6 @@ impl Stack {
     pub fn push(&mut self, top: Entry)
         ensures { entries self.new ≡ pushed (entry top) (entries self.old) }
     {
-        if self.list.len() < MOST_ENTRIES {
-            self.list.push_reserved(top);
-        }
+        let _ = self.list.push(top);
     }
 }

@@ -3,9 +3,10 @@ ghost use Rattle.std.specs.Prelude.{◌≡◌, [], ◌∷◌, map, IfOk};
 ghost use Rattle.facts.specs.Views.{fact as the-fact, stored};
 ghost use Rattle.steps.specs.Step.{without};
 ghost use Rattle.state.specs.Lists.{all_but_last};
-ghost use Rattle.state.specs.Stores.{facts_of, lower, returned, followed, followed_next, last_or, Added};
+ghost use Rattle.state.specs.Stores.{facts_of, Place, returned, followed, followed_next, last_or, Added};
 
-use super::{MOST_FACTS, Store};
+use super::Store;
+use bounded::Bounded;
 use facts::fact::{Fact, Stored};
 use std::alloc::{AllocError, Global};
 
@@ -15,7 +16,7 @@ impl Store {
         ensures facts { IfOk result (λ s. facts_of s ≡ []) }
         ensures next { IfOk result (λ s. s.next ≡ 1) }
     {
-        let list = Vec::with_capacity(heap, MOST_FACTS)?;
+        let list = Bounded::new(heap)?;
         Ok(Store { list, next: 1 })
     }
 
@@ -23,7 +24,7 @@ impl Store {
     pub fn list(&self) -> &[Stored]
         ensures { map stored result.now ≡ facts_of self.now }
     {
-        &self.list
+        self.list.as_slice()
     }
 
     // The next identifier.
@@ -46,27 +47,25 @@ impl Store {
     pub fn add(&mut self, fact: Fact) -> Option<Stored>
         ensures { Added (the-fact fact) self.old result self.new }
     {
-        if self.list.len() >= MOST_FACTS || self.next == 65535 {
+        if self.next == 65535 {
             return None;
         }
         let added = Stored {
             identifier: self.next,
             fact,
         };
-        self.list.push_reserved(added);
+        self.list.push(added).ok()?;
         self.next += 1;
         Some(added)
     }
 
-    // How many facts have a lower identifier.
-    fn place_of(&self, identifier: u16) -> usize
-        ensures { result ≡ lower identifier (facts_of self.now) }
+    // Where the fact of an identifier stands; or, if it is not there, where it would.
+    fn place_of(&self, identifier: u16) -> Result<usize, usize>
+        ensures { Place identifier (facts_of self.now) result }
     {
-        let mut at = 0;
-        while at < self.list.len() && self.list[at].identifier < identifier {
-            at += 1;
-        }
-        at
+        self.list
+            .as_slice()
+            .binary_search_by_key(&identifier, |fact| fact.identifier)
     }
 
     // The fact of an identifier leaves, if it is there.
@@ -74,9 +73,8 @@ impl Store {
         ensures facts { facts_of self.new ≡ without (identifier ∷ []) (facts_of self.old) }
         ensures next { self.new.next ≡ self.old.next }
     {
-        let at = self.place_of(identifier);
-        if at < self.list.len() && self.list[at].identifier == identifier {
-            self.list.remove(at);
+        if let Ok(at) = self.place_of(identifier) {
+            let _ = self.list.remove(at);
         }
     }
 
@@ -85,14 +83,12 @@ impl Store {
         ensures facts { facts_of self.new ≡ returned self.old.next (stored fact) (facts_of self.old) }
         ensures next { self.new.next ≡ self.old.next }
     {
-        if fact.identifier == 0 || fact.identifier >= self.next || self.list.len() >= MOST_FACTS {
+        if fact.identifier == 0 || fact.identifier >= self.next {
             return;
         }
-        let at = self.place_of(fact.identifier);
-        if at < self.list.len() && self.list[at].identifier == fact.identifier {
-            return;
+        if let Err(at) = self.place_of(fact.identifier) {
+            let _ = self.list.insert(at, fact);
         }
-        let _ = self.list.insert(at, fact);
     }
 
     // The fact added last leaves, and gives its identifier back.
@@ -110,8 +106,7 @@ impl Store {
         ensures facts { facts_of self.new ≡ followed self.old.next (stored fact) (facts_of self.old) }
         ensures next { self.new.next ≡ followed_next self.old.next (stored fact) (facts_of self.old) }
     {
-        if fact.identifier == self.next && self.next < 65535 && self.list.len() < MOST_FACTS {
-            self.list.push_reserved(fact);
+        if fact.identifier == self.next && self.next < 65535 && self.list.push(fact).is_ok() {
             self.next += 1;
         }
     }

@@ -2,4 +2,4 @@ use Rattle.orders.proofs.Fronts.{whole_row}
 use Rattle.orders.proofs.drained.row_from_front.Goals as goal
 
 pub returns : goal.returns
-returns g c = λ row before after given gave e. whole_row row before after given gave e
+returns g c = whole_row

@@ -1,8 +1,7 @@
-use Rattle.std.proofs.Common.{◌≡◌, ◌+◌, ◌≤◌, ◌++◌, length, take, deque_items, deque_len}
+use Rattle.std.proofs.Common.{◌≡◌, ◌+◌, ◌≤◌, ◌++◌, length, take, deque_items}
 use Rattle.orders.proofs.breadth.BreadthFirstOrder.take_in.Given as goal
 
 abbrev pub invariant-loop-w : goal.invariant-loop-w
 invariant-loop-w l =
-    (deque_len l.initial.self.queue + length l.list ≤ 256)
+    (length (deque_items l.initial.self.queue) + length l.list ≤ 256)
     × (deque_items l.self.queue ≡ deque_items l.initial.self.queue ++ take l.w-index l.list)
-    × (deque_len l.self.queue ≡ deque_len l.initial.self.queue + l.w-index)

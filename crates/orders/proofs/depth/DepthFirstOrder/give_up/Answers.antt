@@ -1,14 +1,10 @@
-use Rattle.std.proofs.Common.{◌≡◌, reverse, vec_len, sym, refl, ap, rules}
-use Rattle.orders.proofs.Bagged.{popped, shuffled_same, empty}
+use Rattle.std.proofs.Common.{reverse, arith}
+use Rattle.std.proofs.lemmas.Grind.{common_steps}
+use Rattle.orders.specs.Rows.{FirstOut}
+use Rattle.orders.proofs.Bagged.{removed_first}
 use Rattle.orders.proofs.depth.DepthFirstOrder.give_up.Goals as goal
 
-pub returns-then-is_empty : goal.returns-then-is_empty
-returns-then-is_empty c =
-    let z : vec_len c.args.self.now.stack ≡ 0 = search rules in
-    let e = ap reverse (empty _ _ c.args.self.now.stack.ok.0 z) in
-    record { bag = e; gives = (e, e); same = refl }
-
-pub returns : goal.returns
-returns c =
-    let e = popped _ _ c.unwrap-w.result _ c.pop.ensures.items c.unwrap-w.ensures in
-    record { bag = (_, shuffled_same _ _ (sym e)); gives = (_, e); same = tt }
+pub returns-clause-bag : goal.returns-clause-bag
+returns-clause-bag c =
+    let first : FirstOut (reverse c.args.self.now.stack.items) c.map.result (reverse c.pop.new.self.items) = grind (arith, common_steps) in
+    removed_first _ _ _ first

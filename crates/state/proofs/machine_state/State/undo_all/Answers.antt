@@ -1,13 +1,6 @@
 use Rattle.state.specs.States.{state}
-use Rattle.state.proofs.Runs.{undo_start, undo_turn, undo_end}
+use Rattle.state.proofs.Runs.{undo_turn}
 use Rattle.state.proofs.machine_state.State.undo_all.Goals as goal
 
-pub loop-at-init : goal.loop-at-init
-loop-at-init c = undo_start c.args.changes.now (state c.args.self.now)
-
-pub loop-at-preserved : goal.loop-at-preserved
-loop-at-preserved c =
-    undo_turn c.args.changes.now c.loop-at.at (state c.loop-at.self) _ c.index-changes-at.result (state c.undo.new.self) c.index-changes-at.is c.loop-at-test.true c.loop-at.auto.at c.undo.ensures c.loop-at.invariant
-
-pub returns : goal.returns
-returns c = undo_end c.args.changes.now c.loop-at.at (state c.loop-at.self) _ c.loop-at-test.false c.loop-at.invariant
+pub loop-change-preserved : goal.loop-change-preserved
+loop-change-preserved c = undo_turn _ _ c.in-Some.change.now (state c.loop-change.self) (state c.undo.new.self) _ c.in-Some.ensures.steps c.undo.ensures c.loop-change.invariant

@@ -1,18 +1,12 @@
-use Rattle.std.proofs.Common.{vec_items, arith}
-use Rattle.state.proofs.Places.{one_passed, stops, all_passed}
+use Rattle.std.proofs.Common.{rules}
+use Rattle.std.proofs.lemmas.List.Sorted.{answers_always}
+use Rattle.state.proofs.Places.{searched}
 use Rattle.state.proofs.store.Store.place_of.Goals as goal
 
-pub loop-at-preserved : goal.loop-at-preserved
-loop-at-preserved c =
+-- the closure gives a fact's identifier, and the slice has the store's facts
+pub returns : goal.returns
+returns c =
+    let facts = c.binary_search_by_key.ensures in
+    let by_key = facts.position (λ f. f.identifier) (answers_always _ _ _ (λ f a r g called. search rules)) in
     let s = c.args.self.now in
-    one_passed c.args.identifier (vec_items s.list) c.loop-at.at c.index.result.now c.index.ensures (omega (arith, s.list.ok.0, c.loop-at-test.true, c.len.ensures)) c.if-index-identifier.true c.loop-at.invariant
-
-pub returns-else-index-identifier : goal.returns-else-index-identifier
-returns-else-index-identifier c =
-    let s = c.args.self.now in
-    stops c.args.identifier (vec_items s.list) c.loop-at.at c.index.result.now c.index.ensures (omega (arith, s.list.ok.0, c.loop-at-test.true, c.len.ensures)) c.if-index-identifier.false c.loop-at.invariant
-
-pub returns-after-loop-at : goal.returns-after-loop-at
-returns-after-loop-at c =
-    let s = c.args.self.now in
-    all_passed c.args.identifier (vec_items s.list) c.loop-at.at (omega (arith, s.list.ok.0, c.loop-at-test.false, c.len.ensures)) c.loop-at.invariant
+    rw (← c.as_slice.ensures) (searched c.args.identifier s.next c.as_slice.result.now c.binary_search_by_key.result (rw c.as_slice.ensures s.rising) facts.bound by_key)

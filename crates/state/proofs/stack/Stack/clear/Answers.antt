@@ -1,8 +1,0 @@
-use Rattle.std.proofs.Common.{map, reverse, ap}
-use Rattle.facts.specs.Views.{entry}
-use Rattle.state.specs.Stacks.{entries}
-use Rattle.state.proofs.stack.Stack.clear.Goals as goal
-
-pub returns : goal.returns
-unfolding entries
-returns c = ap (λ l. reverse (map entry l)) c.clear.ensures.items
