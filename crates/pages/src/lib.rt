@@ -1,0 +1,4 @@
+// Texts of any bytes that grow.
+#![tactic(auto)]
+
+pub mod page;
