@@ -14,6 +14,7 @@ use Rattle.std.proofs.lemmas.Result.{err_from_is_err_and}
 use Rattle.parse.specs.declared.tree.Rule.{Rule as CodeRule}
 use Rattle.parse.specs.Whole.{BookTold, GoalTold}
 use Rattle.parse.specs.declared.tree.Item.{Item}
+use Rattle.parse.specs.declared.tree.Mention.{Mention}
 use Rattle.parse.specs.Tokens.{words}
 use Rattle.parse.specs.Flaws.{Faulted}
 use Rattle.parse.specs.Starts.{Over}
@@ -53,7 +54,7 @@ some_word ts at h = word_in (words ts) at (rw length-map h)
 pub exit_book : {ws : List W} {o : Out (List tree.Rule)} {f : Flaw} (r : Result (Vec CodeRule Global) Flaw) → IsErrAnd r (λ y. y ≡ f) → Faulted ws f o → BookTold ws r o
 exit_book {ws = ws} {o = o} r e h = let p = err_from_is_err_and r e in subst (λ x. BookTold ws x o) (sym p.1) (subst (λ y. Faulted ws y o) (sym p.2) h)
 
-pub exit_goal : {ws : List W} {o : Out tree.Content} {f : Flaw} (r : Result (Vec Item Global) Flaw) → IsErrAnd r (λ y. y ≡ f) → Faulted ws f o → GoalTold ws r o
+pub exit_goal : {ws : List W} {o : Out tree.Content} {f : Flaw} (r : Result (Vec (Item Mention) Global) Flaw) → IsErrAnd r (λ y. y ≡ f) → Faulted ws f o → GoalTold ws r o
 exit_goal {ws = ws} {o = o} r e h = let p = err_from_is_err_and r e in subst (λ x. GoalTold ws x o) (sym p.1) (subst (λ y. Faulted ws y o) (sym p.2) h)
 
 many_none : (k : ℕ) (ns : List (List ℕ)) → many first_rule read_rule next_rule k ns [] ≡ ok [] []

@@ -18,7 +18,7 @@ use Rattle.parse.specs.declared.few.Few.{Few}
 use Rattle.parse.specs.Fews.{few_items}
 use Rattle.parse.specs.declared.tree.Mention.{Mention as CodeMention}
 use Rattle.parse.specs.declared.tree.Item.{Item as CodeItem}
-use Rattle.parse.specs.declared.tree.Asking.{Asking as CodeAsking}
+use Rattle.parse.specs.declared.tree.Comparison.{Comparison}
 use Rattle.parse.specs.Flaws.{listed}
 use Rattle.parse.specs.Model.{Term, number, cell, variable, sum, term, Asking, asking, Tell, Mention, mention, Item, item, add, tell, fail, Alternative}
 
@@ -178,11 +178,11 @@ abbrev pub IsArgument : List (List ℕ) → Code → tree.Argument → Type 0
 IsArgument vs x y = argument_term vs y ≡ term x
 
 -- the items of an alternative or goal
-abbrev pub IsContent : List (List ℕ) → Vec CodeItem Global → tree.Content → Type 0
+abbrev pub IsContent : List (List ℕ) → Vec (CodeItem CodeMention) Global → tree.Content → Type 0
 IsContent vs x y = content_of vs y ≡ map item (vec_items x)
 
 -- the comparisons of a guard, none where there is no guard
-abbrev pub IsGuard : List (List ℕ) → Vec CodeAsking Global → tree.Guard → Type 0
+abbrev pub IsGuard : List (List ℕ) → Vec (Comparison Relation) Global → tree.Guard → Type 0
 IsGuard vs x y = guard_of vs y ≡ map asking (vec_items x)
 
 -- arguments and heads, under the variables of the rule

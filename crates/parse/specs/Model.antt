@@ -4,8 +4,7 @@ use Rattle.words.specs.Names.{name_bytes}
 use Rattle.cells.specs.declared.relations.Relation.{Relation}
 use Rattle.cells.specs.declared.relations.Telling.{Telling}
 use Rattle.parse.specs.Fews.{few_items}
-use Rattle.parse.specs.declared.tree.Asking.{Asking as CodeAsking}
-use Rattle.parse.specs.declared.tree.Tell.{Tell as CodeTell}
+use Rattle.parse.specs.declared.tree.Comparison.{Comparison}
 use Rattle.parse.specs.declared.tree.Mention.{Mention as CodeMention}
 use Rattle.parse.specs.declared.tree.Item.{Item as CodeItem}
 use Rattle.parse.specs.declared.tree.Item.TheVariants as code-item
@@ -69,16 +68,16 @@ pub record Alternative : Type 0 where
   pub weight : ℕ
   pub items : List Item
 
-abbrev pub asking : CodeAsking → Asking
+abbrev pub asking : Comparison Relation → Asking
 asking c = record { left = term c.left; relation = c.relation; right = term c.right }
 
-abbrev pub telling : CodeTell → Tell
-telling c = record { left = term c.left; telling = c.telling; right = term c.right }
+abbrev pub telling : Comparison Telling → Tell
+telling c = record { left = term c.left; telling = c.relation; right = term c.right }
 
 abbrev pub mention : CodeMention → Mention
 mention f = record { place = f.place; name = name_bytes f.name; arguments = map term (few_items f.arguments) }
 
-abbrev pub item : CodeItem → Item
+abbrev pub item : CodeItem CodeMention → Item
 item (code-item.Add f) = add (mention f)
 item (code-item.Tell c) = tell (telling c)
 item code-item.Fail = fail

@@ -6,6 +6,7 @@ use Rattle.syntax.specs.Tree as tree
 use Rattle.parse.specs.declared.flaw.Flaw.{Flaw}
 use Rattle.parse.specs.declared.tree.Rule.{Rule}
 use Rattle.parse.specs.declared.tree.Item.{Item}
+use Rattle.parse.specs.declared.tree.Mention.{Mention}
 use Rattle.parse.specs.Model.{item}
 use Rattle.parse.specs.Flat.{content_of}
 use Rattle.parse.specs.Flaws.{Faulted}
@@ -17,6 +18,6 @@ BookTold ws (Ok v) o = (y : List tree.Rule) × (map rule_model y ≡ map rule_vi
 BookTold ws (Err f) o = Faulted ws f o
 
 -- the same of a goal's items
-abbrev pub GoalTold : List W → Result (Vec Item Global) Flaw → Out tree.Content → Type 0
+abbrev pub GoalTold : List W → Result (Vec (Item Mention) Global) Flaw → Out tree.Content → Type 0
 GoalTold ws (Ok v) o = (y : tree.Content) × (content_of [] y ≡ map item (vec_items v)) × (o ≡ ok y [])
 GoalTold ws (Err f) o = Faulted ws f o

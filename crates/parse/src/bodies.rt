@@ -74,7 +74,7 @@ fn tell(ts: &[Token], at: usize, scope: Scope) -> Result<(Tell, usize), Flaw>
     Ok((
         Tell {
             left,
-            telling,
+            relation: telling,
             right,
         },
         end,
@@ -82,7 +82,7 @@ fn tell(ts: &[Token], at: usize, scope: Scope) -> Result<(Tell, usize), Flaw>
 }
 
 // An item, and where it ends.
-fn item(ts: &[Token], at: usize, scope: Scope) -> Result<(Item, usize), Flaw>
+fn item(ts: &[Token], at: usize, scope: Scope) -> Result<(Item<Mention>, usize), Flaw>
     ensures { Tells (IsAs the-item (item_of (scope_variables scope.entry))) (words ts.now) result (read_item (scoped scope.entry) (drop at (words ts.now))) }
 {
     if name_ahead(ts, at) {
@@ -103,7 +103,7 @@ fn items(
     at: usize,
     scope: Scope,
     most: u8,
-) -> Result<(Vec<Item>, usize), Flaw>
+) -> Result<(Vec<Item<Mention>>, usize), Flaw>
     ensures { Tells (AreAs vec_items the-item (item_of (scope_variables scope.entry))) (words ts.now) result (read_items most (scoped scope.entry) (drop at (words ts.now))) }
 {
     let mut items = Vec::new(heap);
@@ -126,7 +126,7 @@ pub fn content(
     at: usize,
     scope: Scope,
     most: u8,
-) -> Result<(Vec<Item>, usize), Flaw>
+) -> Result<(Vec<Item<Mention>>, usize), Flaw>
     ensures { Tells (IsContent (scope_variables scope.entry)) (words ts.now) result (read_content most (scoped scope.entry) (drop at (words ts.now))) }
 {
     if let Some(end) = skip(ts, at, Sign::True) {

@@ -1,6 +1,8 @@
 // At most three of a kind.
-ghost use Rattle.std.specs.Prelude.{◌≡◌, ◌-◌, ◌≤◌, [], ◌∷◌, ◌++◌, length, take};
+ghost use Rattle.std.specs.Prelude.{◌≡◌, ◌-◌, ◌≤◌, [], ◌∷◌, ◌++◌, length, take, OnOk};
 ghost use Rattle.parse.specs.Fews.{few_items};
+
+use std::alloc::AllocError;
 
 #[derive(Clone, Copy, Debug, PartialEq, Eq)]
 pub enum Few<T> {
@@ -18,6 +20,18 @@ pub struct Room {
 }
 
 impl<T: Copy> Few<T> {
+    // How many there are.
+    pub fn len(self) -> u8
+        ensures { result ≡ length (few_items self) }
+    {
+        match self {
+            Few::Zero => 0,
+            Few::One(_) => 1,
+            Few::Two(_, _) => 2,
+            Few::Three(_, _, _) => 3,
+        }
+    }
+
     // For how many more there is room.
     pub fn room(self) -> Room
         ensures { result.left ≡ 3 - length (few_items self) }
@@ -28,6 +42,26 @@ impl<T: Copy> Few<T> {
             Few::Two(_, _) => Room { left: 1 },
             Few::Three(_, _, _) => Room { left: 0 },
         }
+    }
+
+    // All of them, behind what a table holds.
+    pub fn append_to(self, out: &mut Vec<T>) -> Result<(), AllocError>
+        ensures { OnOk result (out.new.items ≡ out.old.items ++ few_items self) }
+    {
+        match self {
+            Few::Zero => {}
+            Few::One(a) => out.push(a)?,
+            Few::Two(a, b) => {
+                out.push(a)?;
+                out.push(b)?;
+            }
+            Few::Three(a, b, c) => {
+                out.push(a)?;
+                out.push(b)?;
+                out.push(c)?;
+            }
+        }
+        Ok(())
     }
 
     // One more behind the others, where there is room.

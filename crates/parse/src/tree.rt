@@ -14,21 +14,19 @@ pub enum Term {
     Sum(Variable, Number),
 }
 
-// A comparison of a guard.
+// A comparison by a relation.
 #[derive(Clone, Copy, Debug, PartialEq, Eq)]
-pub struct Asking {
+pub struct Comparison<R> {
     pub left: Term,
-    pub relation: Relation,
+    pub relation: R,
     pub right: Term,
 }
 
+// A comparison of a guard.
+pub type Asking = Comparison<Relation>;
+
 // A comparison of a body.
-#[derive(Clone, Copy, Debug, PartialEq, Eq)]
-pub struct Tell {
-    pub left: Term,
-    pub telling: Telling,
-    pub right: Term,
-}
+pub type Tell = Comparison<Telling>;
 
 // A fact by its name, which stands at a place of the text.
 #[derive(Clone, Copy, Debug, PartialEq, Eq)]
@@ -38,9 +36,10 @@ pub struct Mention {
     pub arguments: Few<Term>,
 }
 
+// An item of a body or goal, by how it holds a fact.
 #[derive(Clone, Copy, Debug, PartialEq, Eq)]
-pub enum Item {
-    Add(Mention),
+pub enum Item<F> {
+    Add(F),
     Tell(Tell),
     Fail,
 }
@@ -49,7 +48,7 @@ pub enum Item {
 #[derive(Drop)]
 pub struct Alternative {
     pub weight: Weight,
-    pub items: Vec<Item>,
+    pub items: Vec<Item<Mention>>,
 }
 
 // What stands between the first heads and the body.

@@ -11,7 +11,7 @@ use crate::rules::rule;
 use crate::scope::Scope;
 use crate::starts::{Part, one_too_many};
 use crate::token::{Sign, Token};
-use crate::tree::{Item, Rule};
+use crate::tree::{Item, Mention, Rule};
 use std::alloc::Global;
 
 // The rules that the words of a book say.
@@ -37,7 +37,7 @@ pub fn rules(heap: Global, ts: &[Token]) -> Result<Vec<Rule>, Flaw>
 }
 
 // The items that the words of a goal say.
-pub fn goal(heap: Global, ts: &[Token]) -> Result<Vec<Item>, Flaw>
+pub fn goal(heap: Global, ts: &[Token]) -> Result<Vec<Item<Mention>>, Flaw>
     ensures { GoalTold (words ts.now) result (read_goal (words ts.now)) }
 {
     let next = expect(ts, 0, Sign::Ask)?;
