@@ -1,6 +1,6 @@
 // Books and goals as types.
 use crate::predicate::Predicates;
-use parse::tree::{Item, Rule};
+use parse::tree::{Item, Mention, Rule};
 
 // A rule book: its predicates, numbered from 0 as they first appear, and its rules.
 #[derive(Drop)]
@@ -12,5 +12,5 @@ pub struct Book {
 // A goal: the items with which a search begins.
 #[derive(Drop)]
 pub struct Goal {
-    pub items: Vec<Item>,
+    pub items: Vec<Item<Mention>>,
 }

@@ -29,7 +29,7 @@ fn add_heads(out: &mut Vec<Mention>, heads: Few<Mention>) -> Result<(), AllocErr
     Ok(())
 }
 
-fn add_item(out: &mut Vec<Mention>, item: Item) -> Result<(), AllocError>
+fn add_item(out: &mut Vec<Mention>, item: Item<Mention>) -> Result<(), AllocError>
     ensures { Grown result (map mention out.old.items) (in_item (the-item item)) (map mention out.new.items) }
 {
     match item {
@@ -42,7 +42,7 @@ fn add_item(out: &mut Vec<Mention>, item: Item) -> Result<(), AllocError>
     }
 }
 
-fn add_items(out: &mut Vec<Mention>, items: &[Item]) -> Result<(), AllocError>
+fn add_items(out: &mut Vec<Mention>, items: &[Item<Mention>]) -> Result<(), AllocError>
     ensures { Grown result (map mention out.old.items) (in_items (map the-item items.now)) (map mention out.new.items) }
 {
     for item in items {
@@ -81,7 +81,7 @@ pub fn mentions(heap: Global, rules: &[Rule]) -> Result<Vec<Mention>, AllocError
 }
 
 // All facts that a goal's items mention.
-pub fn in_goal(heap: Global, items: &[Item]) -> Result<Vec<Mention>, AllocError>
+pub fn in_goal(heap: Global, items: &[Item<Mention>]) -> Result<Vec<Mention>, AllocError>
     ensures { IfOk result (λ v. map mention v.items ≡ in_items (map the-item items.now)) }
 {
     let mut out = Vec::new(heap);
