@@ -2,3 +2,5 @@
 #![tactic(auto)]
 
 pub mod page;
+#[cfg(test)]
+mod tests;

@@ -49,25 +49,3 @@ impl Page {
         self.text(&shown)
     }
 }
-
-#[cfg(test)]
-mod tests {
-    use crate::page::Page;
-    use std::test::Fail;
-    use words::name::Name;
-
-    #[test]
-    fn grows_at_its_end(rt: HostRuntime) -> Result<(), Fail> {
-        let mut page = Page::new(rt.alloc());
-        page.raw(b"\xff")?;
-        page.text(" é ")?;
-        if let Some(name) = Name::of(b"key") {
-            page.name(&name)?;
-        }
-        let n = -7i32;
-        write!(page, "({n}, {})", 18_446_744_073_709_551_615u64)?;
-        let written = b"\xff \xc3\xa9 key(-7, 18446744073709551615)";
-        assert!(rt; page.bytes.as_slice() == written.as_slice());
-        Ok(())
-    }
-}

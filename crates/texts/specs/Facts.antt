@@ -2,12 +2,8 @@
 use Rattle.std.specs.Prelude.{ℕ, List, [], ◌∷◌, ◌++◌, ℤ, codes, decimal}
 use Rattle.std.specs.Fmt.{signed_decimal}
 use Rattle.std.specs.List.{flat_map}
-use Rattle.steps.specs.State.{Value, number, cell}
-
--- a value: a number, or `#` and the cell's number
-abbrev pub value_text : Value → List ℕ
-value_text (number n) = signed_decimal n
-value_text (cell k) = codes "#" ++ decimal k
+use Rattle.steps.specs.State.{Value, cell}
+use Rattle.facts.specs.Texts.{value_text}
 
 -- more arguments, up to the closing bracket
 abbrev pub more_text : List Value → List ℕ

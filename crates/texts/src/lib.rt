@@ -1,4 +1,6 @@
 // Facts, paths and cells as text.
 #![tactic(auto)]
 
+#[cfg(test)]
+mod tests;
 pub mod wording;

@@ -51,8 +51,36 @@ impl fmt::Display for Narrowed {
     ghost output = { λ it. Some (cell_text it.cell.index it.members.least it.members.greatest it.members.count) };
 
     fn fmt<W: fmt::Write>(&self, f: &mut fmt::Formatter<W>) -> fmt::Result {
-        let cell = self.cell.index;
-        let Members { least, greatest, count } = self.members;
-        write!(f, "#{cell} from {least} to {greatest}, {count} members")
+        let cell = Value::Cell(self.cell);
+        let Members {
+            least,
+            greatest,
+            count,
+        } = self.members;
+        write!(f, "{cell} from {least} to {greatest}, {count} members")
     }
+}
+
+// Writes arguments in brackets; nothing where there are none.
+pub fn write_arguments(page: &mut Page, arguments: Few<Value>) -> Result<(), AllocError>
+    ensures { OnOk result (page.new.bytes.items ≡ page.old.bytes.items ++ arguments_text (map valued (few_items arguments))) }
+{
+    let mut values = Vec::new(page.heap);
+    arguments.append_to(&mut values)?;
+    let Some((first, others)) = values.split_first() else {
+        return Ok(());
+    };
+    write!(page, "({first}")?;
+    for value in others {
+        write!(page, ",{value}")?;
+    }
+    page.text(")")
+}
+
+// Writes a fact: its name, and its arguments.
+pub fn write_fact(page: &mut Page, name: &Name, arguments: Few<Value>) -> Result<(), AllocError>
+    ensures { OnOk result (page.new.bytes.items ≡ page.old.bytes.items ++ fact_text (name_bytes name.now) (map valued (few_items arguments))) }
+{
+    page.name(name)?;
+    write_arguments(page, arguments)
 }
