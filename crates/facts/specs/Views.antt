@@ -26,7 +26,7 @@ abbrev pub value_if : Option Value → Option model.Value
 value_if None = None
 value_if (Some v) = Some (value v)
 
-abbrev pub fact : Fact → model.Fact
+abbrev pub fact : Fact Value → model.Fact
 fact f = record { predicate = f.predicate.index; arguments = map value (few_items f.arguments) }
 
 abbrev pub stored : Stored → model.Stored

@@ -10,7 +10,7 @@ use parse::number::Number;
 #[derive(Clone, Copy, Debug, PartialEq, Eq)]
 pub enum Entry {
     // A fact to add.
-    Add(Fact),
+    Add(Fact<Value>),
     // A comparison to tell: of a value, with a number on its right.
     Tell(Value, Telling, Number),
     Fail,

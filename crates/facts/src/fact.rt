@@ -11,16 +11,16 @@ pub struct PredicateNumber {
     ghost few: { index < 32 },
 }
 
-// A fact: the number of its predicate, and its arguments.
+// A fact by the number of its predicate, with its arguments: values, or the terms that a rule or a goal writes.
 #[derive(Clone, Copy, Debug, PartialEq, Eq)]
-pub struct Fact {
+pub struct Fact<A> {
     pub predicate: PredicateNumber,
-    pub arguments: Few<Value>,
+    pub arguments: Few<A>,
 }
 
 // A fact of the store, with its identifier.
 #[derive(Clone, Copy, Debug, PartialEq, Eq)]
 pub struct Stored {
     pub identifier: u16,
-    pub fact: Fact,
+    pub fact: Fact<Value>,
 }

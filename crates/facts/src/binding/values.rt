@@ -19,13 +19,13 @@ impl Bindings {
     pub fn get(&self, variable: Variable) -> Option<Value>
         ensures { value_if result ≡ slice_index_or (bindings self.now) variable.index None }
     {
-        self.values[variable.index as usize]
+        self.values[usize::from(variable.index)]
     }
 
     // A variable has a value now.
     pub fn set(&mut self, variable: Variable, to: Value)
         ensures { bindings self.new ≡ slice_set (bindings self.old) variable.index (Some (value to)) }
     {
-        self.values[variable.index as usize] = Some(to);
+        self.values[usize::from(variable.index)] = Some(to);
     }
 }
