@@ -11,8 +11,6 @@ use Rattle.words.specs.declared.word.What.TheVariants.{Name, Variable, Number, S
 use Rattle.words.specs.declared.word.Word.{Word}
 use Rattle.words.specs.declared.faults.LetterFault.{LetterFault}
 use Rattle.words.specs.declared.faults.LetterFault.TheVariants.{TextTooLong, NoWord, WordTooLong}
-use Rattle.words.specs.declared.count.Count.{Count}
-use Rattle.words.specs.declared.name.Name.{Name as Spelled}
 use Rattle.words.specs.Names.{name_bytes}
 
 -- the number that digits write
@@ -87,23 +85,7 @@ seen (Ok None) p = end p
 seen (Ok (Some w)) p = word (spells w.what) w.place p
 seen (Err e) s = faulted e s
 
--- the same of a part, which holds its own end
-abbrev pub seen_part : Result (What × ℕ) LetterFault → ℕ → Read
-seen_part (Ok x) s = word (spells x.0) s x.1
-seen_part (Err e) s = faulted e s
-
--- the bytes of a name or a variable, and where it ends
-abbrev pub name_at : List ℕ → ℕ → Result (List ℕ × ℕ) LetterFault
-name_at bs s = cond (fits (prefix_len inner bs)) (Ok (take (prefix_len inner bs) bs, s + prefix_len inner bs)) (Err (WordTooLong s))
-
-abbrev pub seen_name : Result (Spelled × ℕ) LetterFault → Result (List ℕ × ℕ) LetterFault
-seen_name (Ok x) = Ok (name_bytes x.0, x.1)
-seen_name (Err e) = Err e
-
-abbrev pub seen_number : Result (Count × ℕ) LetterFault → ℕ → Read
-seen_number (Ok x) s = word (number x.0.value) s x.1
-seen_number (Err e) s = faulted e s
-
-abbrev pub seen_mark : Result (Mark × ℕ) LetterFault → ℕ → Read
-seen_mark (Ok x) s = word (sign x.0) s x.1
-seen_mark (Err e) s = faulted e s
+-- the same of a word that begins at the place s, and of its parts, by the lexeme that they make
+abbrev pub seen_as : {T : Type 0} → (T → Lexeme) → Result T LetterFault → ℕ → ℕ → Read
+seen_as f (Ok x) s p = word (f x) s p
+seen_as f (Err e) s p = faulted e p

@@ -1,5 +1,6 @@
 -- The bytes of a name. Assumes nothing.
-use Rattle.std.specs.Prelude.{◌≡◌, ℕ, ◌<◌, ◌⊎◌, List, [], ◌∷◌, length, take, Some, None, Option}
+use Rattle.std.specs.Prelude.{◌≡◌, ℕ, ◌<◌, Bool, ◌&&◌, ◌⊎◌, List, [], ◌∷◌, length, take, Some, None, Option, ◌==◌}
+use Rattle.std.specs.Str.{bytes_eq}
 use Rattle.words.specs.declared.name.Name.{Name}
 
 abbrev pub name_bytes : Name → List ℕ
@@ -16,3 +17,7 @@ true_bytes = 116 ∷ 114 ∷ 117 ∷ 101 ∷ []
 
 abbrev pub fail_bytes : List ℕ
 fail_bytes = 102 ∷ 97 ∷ 105 ∷ 108 ∷ []
+
+-- what `==` of two names answers
+abbrev pub name_eq : Name → Name → Bool
+name_eq a b = bytes_eq a.bytes b.bytes && a.count == b.count

@@ -14,7 +14,7 @@ impl Name {
             return None;
         }
         let mut bytes = [0u8; 12];
-        bytes[0..count].copy_from_slice(spelled);
+        bytes[..count].copy_from_slice(spelled);
         Some(Name {
             bytes,
             count: count as u8,
@@ -25,38 +25,26 @@ impl Name {
     pub fn truth() -> Name
         ensures { name_bytes result ≡ true_bytes }
     {
-        match Name::of(b"true") {
-            Some(name) => name,
-            None => unreachable(),
-        }
+        Name::of(b"true").unwrap()
     }
 
     // The name `fail`.
     pub fn failure() -> Name
         ensures { name_bytes result ≡ fail_bytes }
     {
-        match Name::of(b"fail") {
-            Some(name) => name,
-            None => unreachable(),
-        }
+        Name::of(b"fail").unwrap()
     }
 
     pub fn spelling(&self) -> &[u8]
         ensures { result.now ≡ name_bytes self.now }
     {
-        &self.bytes[0..usize::from(self.count)]
+        &self.bytes[..usize::from(self.count)]
     }
 }
 
 // Whether two names are the same: both have the same bytes, and as many.
 pub fn same_name(a: &Name, b: &Name) -> bool
     ensures { Decides result (name_bytes a.now ≡ name_bytes b.now) }
-{
-    same_bytes(a.spelling(), b.spelling())
-}
-
-fn same_bytes(a: &[u8], b: &[u8]) -> bool
-    ensures { Decides result (a.now ≡ b.now) }
 {
     a == b
 }

@@ -1,15 +1,16 @@
 // The reader steps word by word; which sort of word begins is told by its first byte.
-ghost use Rattle.std.specs.Prelude.{◌≡◌, ℕ, ◌+◌, ◌<◌, ◌≤◌, length, drop, IfOk, slice_index};
-ghost use Rattle.std.specs.List.{prefix_len};
-ghost use Rattle.words.specs.Bytes.{has, sort, white};
-ghost use Rattle.words.specs.Lex.{value, name_at, seen_name, read_number, seen_number, read_mark, seen_mark, by_sort, seen_part, word_at, seen};
+ghost use Rattle.std.specs.Prelude.{◌≡◌, ℕ, ◌+◌, ◌<◌, ◌≤◌, Bool, length, drop, slice_index};
+ghost use Rattle.std.specs.List.{take_while};
+ghost use Rattle.words.specs.Bytes.{sort};
+ghost use Rattle.words.specs.Names.{name_bytes};
+ghost use Rattle.words.specs.Lex.{value, name, variable, number, sign, spells, read_name, read_number, read_mark, by_sort, word_at, seen, seen_as};
 
 use crate::count::Count;
 use crate::faults::LetterFault;
 use crate::marks::{Mark, mark_of};
 use crate::name::Name;
 use crate::reader::Words;
-use crate::sorts::{Class, Sort, belongs, sort_of};
+use crate::sorts::{Sort, is_inner, is_white};
 use crate::word::{What, Word};
 
 impl<'a> Words<'a> {
@@ -34,28 +35,79 @@ impl<'a> Words<'a> {
         ensures same { self.new.text ≡ self.old.text }
         ensures read { seen result self.new.at ≡ word_at self.old.text.now self.old.at }
     {
-        self.at = run_end(self.text, self.at, Class::Blank);
+        self.at += self.run(is_white).len();
         let place = self.at;
-        if place >= self.text.len() {
+        if place == self.text.len() {
             return Ok(None);
         }
-        let (what, end) = word_from(self.text, place)?;
-        self.at = end;
+        let what = self.word()?;
         Ok(Some(Word { place, what }))
     }
-}
 
-// Where the run of bytes of a class that begins at `from` ends.
-fn run_end(text: &[u8], from: usize, class: Class) -> usize
-    requires { from ≤ length text.now }
-    ensures within { result ≤ length text.now }
-    ensures place { result ≡ from + prefix_len (has class) (drop from text.now) }
-{
-    let mut at = from;
-    while at < text.len() && belongs(class, text[at]) {
-        at += 1;
+    // The bytes from here on that pass a test, up to the first that does not.
+    fn run<F: Fn(u8) -> bool>(&self, passes: F) -> &'a [u8]
+        requires { F.IsAlwaysCallable passes }
+        ensures within { self.now.at + length result.now ≤ length self.now.text.now }
+        ensures run { (test : ℕ → Bool) → ((b : ℕ) (r : Bool) → F.post passes b r → r ≡ test b) → result.now ≡ take_while test (drop self.now.at self.now.text.now) }
+    {
+        let rest = &self.text[self.at..];
+        let width = rest.iter().take_while(|b| passes(**b)).count();
+        &rest[..width]
     }
-    at
+
+    // The word that begins here.
+    fn word(&mut self) -> Result<What, LetterFault>
+        ensures same { self.new.text ≡ self.old.text }
+        ensures read { seen_as spells result self.old.at self.new.at ≡ by_sort (sort (slice_index self.old.text.now self.old.at)) self.old.text.now self.old.at }
+    {
+        match Sort::from(byte_at(self.text, self.at)) {
+            Sort::Name => Ok(What::Name(self.name()?)),
+            Sort::Variable => Ok(What::Variable(self.name()?)),
+            Sort::Number => Ok(What::Number(self.count()?)),
+            Sort::Mark => Ok(What::Sign(self.mark()?)),
+            Sort::White | Sort::Other => Err(LetterFault::NoWord(self.at)),
+        }
+    }
+
+    // The name or variable that begins here.
+    fn name(&mut self) -> Result<Name, LetterFault>
+        ensures same { self.new.text ≡ self.old.text }
+        ensures name { seen_as (λ n. name (name_bytes n)) result self.old.at self.new.at ≡ read_name name (drop self.old.at self.old.text.now) self.old.at }
+        ensures variable { seen_as (λ n. variable (name_bytes n)) result self.old.at self.new.at ≡ read_name variable (drop self.old.at self.old.text.now) self.old.at }
+    {
+        let letters = self.run(is_inner);
+        let name = Name::of(letters).ok_or(LetterFault::WordTooLong(self.at))?;
+        self.at += letters.len();
+        Ok(name)
+    }
+
+    // The number that begins here.
+    fn count(&mut self) -> Result<Count, LetterFault>
+        ensures same { self.new.text ≡ self.old.text }
+        ensures read { seen_as (λ n. number n.value) result self.old.at self.new.at ≡ read_number (drop self.old.at self.old.text.now) self.old.at }
+    {
+        let digits = self.run(|b| b.is_ascii_digit());
+        let too_long = LetterFault::WordTooLong(self.at);
+        if digits.len() > 10 {
+            return Err(too_long);
+        }
+        let count = Count::try_from(number_of(digits)).map_err(|_| too_long)?;
+        self.at += digits.len();
+        Ok(count)
+    }
+
+    // The mark that begins here.
+    fn mark(&mut self) -> Result<Mark, LetterFault>
+        ensures same { self.new.text ≡ self.old.text }
+        ensures read { seen_as sign result self.old.at self.new.at ≡ read_mark self.old.text.now self.old.at }
+    {
+        let a = byte_at(self.text, self.at);
+        let b = byte_at(self.text, self.at + 1);
+        let c = byte_at(self.text, self.at + 2);
+        let (mark, width) = mark_of(a, b, c).ok_or(LetterFault::NoWord(self.at))?;
+        self.at += width;
+        Ok(mark)
+    }
 }
 
 // The byte at a place, and 0 past the end.
@@ -63,7 +115,7 @@ fn byte_at(text: &[u8], place: usize) -> u8
     ensures value { result ≡ slice_index text.now place }
     ensures inside { 0 < result → place < length text.now }
 {
-    if place < text.len() { text[place] } else { 0 }
+    text.get(place).copied().unwrap_or(0)
 }
 
 // The number that at most ten digits write.
@@ -76,76 +128,4 @@ fn number_of(digits: &[u8]) -> u64
         n = n * 10 + u64::from(d.saturating_sub(b'0'));
     }
     n
-}
-
-// The name or variable at a place, and where it ends.
-fn spelled(text: &[u8], at: usize) -> Result<(Name, usize), LetterFault>
-    requires { at ≤ length text.now }
-    ensures within { IfOk result (λ x. x.1 ≤ length text.now) }
-    ensures read { seen_name result ≡ name_at (drop at text.now) at }
-{
-    let end = run_end(text, at, Class::Inner);
-    match Name::of(&text[at..end]) {
-        Some(name) => Ok((name, end)),
-        None => Err(LetterFault::WordTooLong(at)),
-    }
-}
-
-// The number at a place, and where it ends.
-fn counted(text: &[u8], at: usize) -> Result<(Count, usize), LetterFault>
-    requires { at ≤ length text.now }
-    ensures within { IfOk result (λ x. x.1 ≤ length text.now) }
-    ensures read { seen_number result at ≡ read_number (drop at text.now) at }
-{
-    let end = run_end(text, at, Class::Digit);
-    if end - at > 10 {
-        return Err(LetterFault::WordTooLong(at));
-    }
-    let n = number_of(&text[at..end]);
-    if n > 1_000_000_000 {
-        return Err(LetterFault::WordTooLong(at));
-    }
-    Ok((Count { value: n as u32 }, end))
-}
-
-// The mark at a place, and where it ends.
-fn marked(text: &[u8], at: usize) -> Result<(Mark, usize), LetterFault>
-    requires { at < length text.now }
-    ensures within { IfOk result (λ x. x.1 ≤ length text.now) }
-    ensures read { seen_mark result at ≡ read_mark text.now at }
-{
-    let a = text[at];
-    let b = byte_at(text, at + 1);
-    let c = byte_at(text, at + 2);
-    match mark_of(a, b, c) {
-        Some((mark, width)) => Ok((mark, at + width)),
-        None => Err(LetterFault::NoWord(at)),
-    }
-}
-
-// The word at a place, and where it ends.
-fn word_from(text: &[u8], at: usize) -> Result<(What, usize), LetterFault>
-    requires { at < length text.now }
-    ensures within { IfOk result (λ x. x.1 ≤ length text.now) }
-    ensures read { seen_part result at ≡ by_sort (sort (slice_index text.now at)) text.now at }
-{
-    match sort_of(text[at]) {
-        Sort::Name => {
-            let (name, end) = spelled(text, at)?;
-            Ok((What::Name(name), end))
-        }
-        Sort::Variable => {
-            let (name, end) = spelled(text, at)?;
-            Ok((What::Variable(name), end))
-        }
-        Sort::Number => {
-            let (n, end) = counted(text, at)?;
-            Ok((What::Number(n), end))
-        }
-        Sort::Mark => {
-            let (m, end) = marked(text, at)?;
-            Ok((What::Sign(m), end))
-        }
-        Sort::White | Sort::Other => Err(LetterFault::NoWord(at)),
-    }
 }
