@@ -1,5 +1,5 @@
 -- What a relation says of two whole numbers.
-use Rattle.std.specs.Prelude.{◌≡◌, Bool, ◌&&◌, ◌||◌, ℤ, ◌≤ℤ◌, ◌<ℤ◌, Decides, ◌≢◌, int_le, int_lt}
+use Rattle.std.specs.Prelude.{◌≡◌, ℕ, Bool, List, codes, ◌&&◌, ◌||◌, ℤ, ◌≤ℤ◌, ◌<ℤ◌, Decides, ◌≢◌, int_le, int_lt}
 use Rattle.cells.specs.declared.relations.Relation.{Relation}
 use Rattle.cells.specs.declared.relations.Telling.{Telling}
 use Rattle.cells.specs.declared.relations.Relation.TheVariants as relation
@@ -13,6 +13,15 @@ holds relation.Equal a b = int_le a b && int_le b a
 holds relation.AtLeast a b = int_le b a
 holds relation.Greater a b = int_lt b a
 holds relation.Different a b = int_lt a b || int_lt b a
+
+-- as a book spells it
+abbrev pub relation_text : Relation → List ℕ
+relation_text relation.Less = codes "<"
+relation_text relation.AtMost = codes "=<"
+relation_text relation.Equal = codes "="
+relation_text relation.AtLeast = codes ">="
+relation_text relation.Greater = codes ">"
+relation_text relation.Different = codes "\\="
 
 -- the relation that is told
 abbrev pub relation_of : Telling → Relation

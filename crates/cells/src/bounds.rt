@@ -30,14 +30,10 @@ fn ends(c: u64) -> Option<Span>
 {
     let low = c / UNIT;
     let high = c % UNIT;
-    if low <= high && high <= 2_000_000_000 {
-        Some(Span {
-            low: end_of(low),
-            high: end_of(high),
-        })
-    } else {
-        None
-    }
+    (low <= high && high <= 2_000_000_000).then(|| Span {
+        low: end_of(low),
+        high: end_of(high),
+    })
 }
 
 // The content that holds these ends.
@@ -56,10 +52,6 @@ impl Kind for Bounds {
     ghost LOWEST = { negsuc 999999999 };
 
     ghost HIGHEST = { pos 1000000000 };
-
-    ghost lowest = { negsuc 999999999 };
-
-    ghost highest = { pos 1000000000 };
 
     ghost content = { is_bounds };
 
@@ -117,18 +109,15 @@ impl Kind for Bounds {
     }
 
     fn ask(c: u64, relation: Relation, n: i32) -> bool {
-        match ends(c) {
-            Some(s) => s.all(s.has(n), relation, n),
-            None => true,
-        }
+        ends(c).is_none_or(|s| s.all(s.has(n), relation, n))
     }
 
     fn least(c: u64) -> Option<i32> {
-        Some(ends(c)?.low)
+        ends(c).map(|s| s.low)
     }
 
     fn greatest(c: u64) -> Option<i32> {
-        Some(ends(c)?.high)
+        ends(c).map(|s| s.high)
     }
 
     fn count(c: u64) -> u32 {

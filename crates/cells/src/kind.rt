@@ -14,15 +14,10 @@ pub trait Kind {
 
     const HIGHEST: i32;
 
-    // What the constants are, as a clause reads them.
+    // What the constants are, as clauses and the laws read them.
     ghost LOWEST: { ℤ };
 
     ghost HIGHEST: { ℤ };
-
-    // The ends that the laws speak of.
-    ghost lowest: { ℤ };
-
-    ghost highest: { ℤ };
 
     // Which numbers are contents, and which whole numbers are members of one.
     ghost content: { ℕ → Bool };
@@ -70,17 +65,17 @@ pub trait Kind {
     fn count(c: u64) -> u32
         ensures { result ≡ counted c };
 
-    ghost ends: { Ends lowest highest };
+    ghost ends: { Ends LOWEST HIGHEST };
 
     ghost fits: { Fits64 content };
 
     ghost inhabited: { Inhabited content member };
 
-    ghost confined: { Confined lowest highest content member };
+    ghost confined: { Confined LOWEST HIGHEST content member };
 
     ghost extensional: { Extensional content member };
 
-    ghost entire: { Entire lowest highest content member whole };
+    ghost entire: { Entire LOWEST HIGHEST content member whole };
 
     ghost narrows: { Narrows content member narrowed };
 
@@ -90,5 +85,5 @@ pub trait Kind {
 
     ghost greatests: { (c : ℕ) → Last content member c (greatest c) };
 
-    ghost counts: { Counts lowest highest member counted };
+    ghost counts: { Counts LOWEST HIGHEST member counted };
 }

@@ -1,5 +1,8 @@
-ghost use Rattle.std.specs.Prelude.{◌≡◌};
-ghost use Rattle.cells.specs.Relations.{holds, relation_of, Means};
+ghost use Rattle.std.specs.Prelude.{◌≡◌, Some, MatchResult};
+ghost use Rattle.cells.specs.Relations.{holds, relation_of, relation_text, Means};
+ghost use Rattle.cells.specs.declared.relations.Relation.TheVariants.{Different};
+
+use std::fmt;
 
 // What a guard may ask of a cell.
 #[derive(Clone, Copy, Debug, PartialEq, Eq)]
@@ -38,18 +41,64 @@ impl Relation {
     }
 }
 
-impl Telling {
-    // The relation that is told.
-    pub fn relation(self) -> Relation
-        ensures { result ≡ relation_of self }
-    {
-        match self {
+// The relation that is told.
+impl From<Telling> for Relation {
+    ghost from_gives = { λ t r. r ≡ relation_of t };
+
+    fn from(told: Telling) -> Relation {
+        match told {
             Telling::Less => Relation::Less,
             Telling::AtMost => Relation::AtMost,
             Telling::Equal => Relation::Equal,
             Telling::AtLeast => Relation::AtLeast,
             Telling::Greater => Relation::Greater,
         }
+    }
+}
+
+// `Different` cannot be told.
+#[derive(Clone, Copy, Debug, PartialEq, Eq)]
+pub struct NotTold;
+
+// The telling of a relation.
+impl TryFrom<Relation> for Telling {
+    type Error = NotTold;
+
+    ghost try_from_gives = { λ r t. MatchResult t (λ x. relation_of x ≡ r) (λ _. r ≡ Different) };
+
+    fn try_from(relation: Relation) -> Result<Telling, NotTold> {
+        match relation {
+            Relation::Less => Ok(Telling::Less),
+            Relation::AtMost => Ok(Telling::AtMost),
+            Relation::Equal => Ok(Telling::Equal),
+            Relation::AtLeast => Ok(Telling::AtLeast),
+            Relation::Greater => Ok(Telling::Greater),
+            Relation::Different => Err(NotTold),
+        }
+    }
+}
+
+// As a book spells it.
+impl fmt::Display for Relation {
+    ghost output = { λ r. Some (relation_text r) };
+
+    fn fmt<W: fmt::Write>(&self, f: &mut fmt::Formatter<W>) -> fmt::Result {
+        f.write_str(match self {
+            Relation::Less => "<",
+            Relation::AtMost => "=<",
+            Relation::Equal => "=",
+            Relation::AtLeast => ">=",
+            Relation::Greater => ">",
+            Relation::Different => "\\=",
+        })
+    }
+}
+
+impl fmt::Display for Telling {
+    ghost output = { λ t. Some (relation_text (relation_of t)) };
+
+    fn fmt<W: fmt::Write>(&self, f: &mut fmt::Formatter<W>) -> fmt::Result {
+        Relation::from(*self).fmt(f)
     }
 }
 

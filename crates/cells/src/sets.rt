@@ -21,16 +21,14 @@ fn mask(low: u32, high: u32) -> u64
 fn nonzero(c: u64) -> Option<u64>
     ensures { result ≡ some_bits c }
 {
-    if c > 0 { Some(c) } else { None }
+    (c > 0).then_some(c)
 }
 
 // The least and the greatest member, or none if the number is no content.
 fn ends(c: u64) -> Option<Span>
     ensures { result ≡ set_ends c }
 {
-    if c == 0 {
-        return None;
-    }
+    let c = nonzero(c)?;
     Some(Span {
         low: c.trailing_zeros() as i32,
         high: 63 - c.leading_zeros() as i32,
@@ -41,7 +39,7 @@ fn ends(c: u64) -> Option<Span>
 fn has(c: u64, n: i32) -> bool
     ensures { result ≡ set_member c n }
 {
-    0 <= n && n <= 63 && (c >> n as u32) % 2 == 1
+    (0..=63).contains(&n) && (c >> n as u32) % 2 == 1
 }
 
 impl Kind for Sets {
@@ -52,10 +50,6 @@ impl Kind for Sets {
     ghost LOWEST = { pos 0 };
 
     ghost HIGHEST = { pos 63 };
-
-    ghost lowest = { pos 0 };
-
-    ghost highest = { pos 63 };
 
     ghost content = { is_set };
 
@@ -113,18 +107,15 @@ impl Kind for Sets {
     }
 
     fn ask(c: u64, relation: Relation, n: i32) -> bool {
-        match ends(c) {
-            Some(s) => s.all(has(c, n), relation, n),
-            None => true,
-        }
+        ends(c).is_none_or(|s| s.all(has(c, n), relation, n))
     }
 
     fn least(c: u64) -> Option<i32> {
-        Some(ends(c)?.low)
+        ends(c).map(|s| s.low)
     }
 
     fn greatest(c: u64) -> Option<i32> {
-        Some(ends(c)?.high)
+        ends(c).map(|s| s.high)
     }
 
     fn count(c: u64) -> u32 {

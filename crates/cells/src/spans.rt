@@ -15,11 +15,7 @@ impl Span {
     pub fn new(low: i32, high: i32) -> Option<Span>
         ensures { result ≡ span low high }
     {
-        if low <= high {
-            Some(Span { low, high })
-        } else {
-            None
-        }
+        (low <= high).then_some(Span { low, high })
     }
 
     // Its numbers that satisfy, if there are any.
@@ -39,7 +35,7 @@ impl Span {
     pub fn has(self, n: i32) -> bool
         ensures { result ≡ within self n }
     {
-        self.low <= n && n <= self.high
+        (self.low..=self.high).contains(&n)
     }
 
     // Whether all members of a set satisfy, of which these are the least and the greatest, and `has` says whether

@@ -1,5 +1,5 @@
 -- Two names are equal exactly if their spellings are. Assumes nothing.
-use Rattle.std.proofs.Common.{◌≡◌, ℕ, ◌-◌, ◌≤◌, ◌&&◌, List, ◌++◌, length, take, drop, replicate, Decides, ◌==◌, sym, ap, ap₂, ◌∙◌, arith}
+use Rattle.std.proofs.Common.{◌≡◌, ℕ, ◌-◌, ◌≤◌, List, ◌++◌, length, take, drop, replicate, Decides, ◌==◌, sym, ap, ap₂, ◌∙◌, arith}
 use Rattle.std.specs.Str.{bytes_eq}
 use Rattle.std.proofs.lemmas.Bool.{and_parts, and_from, eqb-true, eq-eqb}
 use Rattle.std.proofs.lemmas.List.{length-take-le, take-append-drop}
@@ -18,7 +18,7 @@ padded_alike xs ys m n lx ly hm hn px py e =
 -- so `==` of two names, also within a type that derives it, compares their spellings
 pub spelled_alike : (a b : Name) → Decides (name_eq a b) (name_bytes a ≡ name_bytes b)
 spelled_alike a b = (
-    λ e. let p = and_parts (bytes_eq a.bytes b.bytes) (a.count == b.count) e in ap₂ take (eqb-true a.count b.count p.1) ((bytes_eq-Decides a.bytes b.bytes).0 p.0),
-    λ e. let p = padded_alike a.bytes b.bytes a.count b.count a.filled b.filled a.short b.short a.padded b.padded e in
-        and_from (bytes_eq a.bytes b.bytes) (a.count == b.count) ((bytes_eq-Decides a.bytes b.bytes).1 p.0) (eq-eqb a.count b.count p.1),
+  λ e. let p = and_parts (bytes_eq a.bytes b.bytes) (a.count == b.count) e in ap₂ take (eqb-true a.count b.count p.1) ((bytes_eq-Decides a.bytes b.bytes).0 p.0),
+  λ e. let p = padded_alike a.bytes b.bytes a.count b.count a.filled b.filled a.short b.short a.padded b.padded e in
+      and_from (bytes_eq a.bytes b.bytes) (a.count == b.count) ((bytes_eq-Decides a.bytes b.bytes).1 p.0) (eq-eqb a.count b.count p.1),
 )

@@ -1,5 +1,6 @@
--- The numbers and places of the faults of letters. Assumes nothing.
-use Rattle.std.specs.Prelude.{ℕ}
+-- The numbers and places of the faults of letters, and how they are told. Assumes nothing.
+use Rattle.std.specs.Prelude.{ℕ, List, ◌++◌, codes}
+use Rattle.std.specs.Fmt.{decimal}
 use Rattle.words.specs.declared.faults.LetterFault.{LetterFault}
 use Rattle.words.specs.declared.faults.LetterFault.TheVariants.{TextTooLong, NoWord, WordTooLong}
 
@@ -12,3 +13,8 @@ abbrev pub letter_place : LetterFault → ℕ
 letter_place (TextTooLong p) = p
 letter_place (NoWord p) = p
 letter_place (WordTooLong p) = p
+
+abbrev pub letter_text : LetterFault → List ℕ
+letter_text (TextTooLong p) = codes "the text is longer than " ++ decimal p ++ codes " bytes"
+letter_text (NoWord p) = codes "no word begins at " ++ decimal p
+letter_text (WordTooLong p) = codes "the word at " ++ decimal p ++ codes " is too long"

@@ -1,7 +1,9 @@
 // The faults of a text's letters, with the place of each.
-ghost use Rattle.std.specs.Prelude.{◌≡◌, ◌<◌, ◌≤◌, length, MatchResult};
-ghost use Rattle.words.specs.Faults.{letter_number, letter_place};
+ghost use Rattle.std.specs.Prelude.{◌≡◌, ◌<◌, ◌≤◌, length, Some, MatchResult};
+ghost use Rattle.words.specs.Faults.{letter_number, letter_place, letter_text};
 ghost use Rattle.words.specs.declared.faults.LetterFault.TheVariants.{TextTooLong};
+
+use std::{error, fmt};
 
 // The text is longer than its limit; a byte begins no word; a word is too long or a number too large.
 #[derive(Clone, Copy, Debug, PartialEq, Eq)]
@@ -32,6 +34,20 @@ impl LetterFault {
         }
     }
 }
+
+impl fmt::Display for LetterFault {
+    ghost output = { λ e. Some (letter_text e) };
+
+    fn fmt<W: fmt::Write>(&self, f: &mut fmt::Formatter<W>) -> fmt::Result {
+        match self {
+            LetterFault::TextTooLong(p) => write!(f, "the text is longer than {p} bytes"),
+            LetterFault::NoWord(p) => write!(f, "no word begins at {p}"),
+            LetterFault::WordTooLong(p) => write!(f, "the word at {p} is too long"),
+        }
+    }
+}
+
+impl error::Error for LetterFault {}
 
 // Whether a text keeps within its limit; the fault lies at the limit.
 pub fn within_limit(text: &[u8], limit: usize) -> Result<(), LetterFault>

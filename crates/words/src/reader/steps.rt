@@ -55,12 +55,20 @@ impl<'a> Words<'a> {
         &rest[..width]
     }
 
+    // The byte at a place, and 0 past the end.
+    fn byte_at(&self, place: usize) -> u8
+        ensures value { result ≡ slice_index self.now.text.now place }
+        ensures inside { 0 < result → place < length self.now.text.now }
+    {
+        self.text.get(place).copied().unwrap_or(0)
+    }
+
     // The word that begins here.
     fn word(&mut self) -> Result<What, LetterFault>
         ensures same { self.new.text ≡ self.old.text }
         ensures read { seen_as spells result self.old.at self.new.at ≡ by_sort (sort (slice_index self.old.text.now self.old.at)) self.old.text.now self.old.at }
     {
-        match Sort::from(byte_at(self.text, self.at)) {
+        match Sort::from(self.byte_at(self.at)) {
             Sort::Name => Ok(What::Name(self.name()?)),
             Sort::Variable => Ok(What::Variable(self.name()?)),
             Sort::Number => Ok(What::Number(self.count()?)),
@@ -101,21 +109,13 @@ impl<'a> Words<'a> {
         ensures same { self.new.text ≡ self.old.text }
         ensures read { seen_as sign result self.old.at self.new.at ≡ read_mark self.old.text.now self.old.at }
     {
-        let a = byte_at(self.text, self.at);
-        let b = byte_at(self.text, self.at + 1);
-        let c = byte_at(self.text, self.at + 2);
+        let a = self.byte_at(self.at);
+        let b = self.byte_at(self.at + 1);
+        let c = self.byte_at(self.at + 2);
         let (mark, width) = mark_of(a, b, c).ok_or(LetterFault::NoWord(self.at))?;
         self.at += width;
         Ok(mark)
     }
-}
-
-// The byte at a place, and 0 past the end.
-fn byte_at(text: &[u8], place: usize) -> u8
-    ensures value { result ≡ slice_index text.now place }
-    ensures inside { 0 < result → place < length text.now }
-{
-    text.get(place).copied().unwrap_or(0)
 }
 
 // The number that at most ten digits write.
