@@ -1,5 +1,5 @@
 -- Texts are accepted exactly if they spell a book or goal. Assumes nothing.
-use Rattle.std.proofs.Common.{◌≡◌, ℕ, ◌≤◌, Bool, true, false, leb, List, [], ◌∷◌, map, length, sym, refl, ap, ◌∙◌, subst}
+use Rattle.std.proofs.Common.{◌≡◌, ℕ, ◌≤◌, Bool, true, false, leb, List, [], ◌∷◌, map, length, Ok, Err, sym, refl, ap, ◌∙◌, subst}
 use Rattle.std.proofs.lemmas.Bool.{cond-true, cond-false, le-leb, leb-true}
 use Rattle.syntax.specs.Syntax.{W, Said, Reader, Out, ok, barred, flawed}
 use Rattle.syntax.specs.Tree as tree
@@ -12,8 +12,7 @@ use Rattle.syntax.proofs.Raw.{books_written, goals_written}
 use Rattle.parse.specs.Model.{Item}
 use Rattle.parse.specs.Flat.{content_of}
 use Rattle.parse.specs.Rules.{rule_model}
-use Rattle.lexed.specs.declared.text.Ending.{Ending}
-use Rattle.lexed.specs.declared.text.Ending.TheVariants.{Clean, Faulty}
+use Rattle.lexed.specs.Texts.{Ending}
 use Rattle.lexed.specs.Texts.{text_words, raw_words, word_places}
 use Rattle.lexed.proofs.Names.{unmarked}
 use Rattle.book.specs.Mentions.{in_rules, in_items}
@@ -48,10 +47,10 @@ module _ {X Y : Type 0} (read : Reader X) (say : X → Said) (whole : (ws : List
   accepted_spelled y e = by_length (leb (length text) most) refl
     where
       by_out : (h : length text ≤ most) (end : Ending) → (text_words text).1 ≡ end → (o : Out X) → read (marked (raw_words text)) ≡ o → judged k (word_places text) end o ≡ accepted y → (x : X) × Spelled say most text x × (k x ≡ accepted y)
-      by_out h (Clean n) q (ok x r) g v =
+      by_out h (Ok n) q (ok x r) g v =
           let a = (exactly (raw_words text) (unmarked text) x).0 (g ∙ ap (ok x) (whole (marked (raw_words text)) x r g)) in
           (x, record { short = h; ended = (n, q); words = a.0; fine = a.1 }, v)
-      by_out h (Faulty l) q (ok x r) g v = absurd (never y _ v)
+      by_out h (Err l) q (ok x r) g v = absurd (never y _ v)
       by_out h end q (barred []) g v = absurd (never y _ v)
       by_out h end q (barred (w ∷ r)) g v = absurd (never y _ v)
       by_out h end q (flawed n w r) g v = absurd (never y _ v)

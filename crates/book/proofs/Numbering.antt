@@ -1,49 +1,66 @@
 -- Predicates in a table. Assumes nothing.
-use Rattle.std.proofs.Common.{◌≡◌, ℕ, suc, ◌+◌, ◌<◌, ◌≤◌, Bool, true, false, cond, ◌||◌, ltb, List, [], ◌∷◌, ◌++◌, map, length, get_or, drop, IsErrAnd, vec_len, Decides, Result, sym, refl, ap, ◌∙◌, subst, arith}
+use Rattle.std.proofs.Common.{◌≡◌, ℕ, suc, ◌+◌, ◌<◌, ◌≤◌, Bool, true, false, cond, not, ◌&&◌, ◌||◌, ◌==◌, ltb, List, [], ◌∷◌, ◌++◌, map, length, get_or, drop, IsErrAnd, vec_len, Decides, Some, None, Result, sym, refl, ap, ◌∙◌, subst, arith}
 use Rattle.std.proofs.lemmas.Result.{err_from_is_err_and}
-use Rattle.std.proofs.lemmas.Bool.{cond-true, cond-false, false≢true, lt-ltb, le-ltb}
+use Rattle.std.proofs.lemmas.Bool.{cond_both, ltb-true, ltb-false, cond-true, cond-false, false≢true, lt-ltb, le-ltb}
 use Rattle.std.proofs.lemmas.List.{drop_more, drop_all, length-map}
 use Rattle.syntax.specs.Grammar.{same_name}
-use Rattle.parse.specs.Model.{Mention, mention, term}
-use Rattle.parse.specs.Fews.{few_items}
-use Rattle.parse.specs.declared.tree.Mention.{Mention as CodeMention}
+use Rattle.std.specs.List.{position, position_or_len}
+use Rattle.words.specs.Names.{name_bytes, name_eq}
+use Rattle.words.proofs.Names.{spelled_alike}
+use Rattle.parse.specs.Model.{Mention}
 use Rattle.parse.proofs.Names.{same_yes, same_no}
 use Rattle.book.specs.declared.predicate.Predicate.{Predicate as Code}
 use Rattle.book.specs.declared.predicate.Predicates.{Predicates}
 use Rattle.book.specs.declared.faults.BookFault.{BookFault}
 use Rattle.book.specs.declared.faults.BookFault.TheVariants.{Grammar, Unbound, Reused, InGoal, Unknown, Memory}
 use Rattle.book.specs.declared.faults.GrammarFault.TheVariants.{Letter, Barred, TooMany}
-use Rattle.book.specs.Predicates.{Predicate, predicates_agree, has, number_of, predicate_of, coded, predicates, Listing, these, excess, noted, on_these, listing, Excess, Listed, all_known, unknown_at, unknowns}
+use Rattle.book.specs.Predicates.{Predicate, Numbered, predicates_agree, has, number_of, predicate_of, coded, predicates, Listing, these, excess, noted, on_these, listing, Excess, Listed, all_known, unknown_at, unknowns}
 
 -- a test that decides whether two names are the same
 pub decided : (r : Bool) (a b : List ℕ) → Decides r (a ≡ b) → r ≡ same_name a b
 decided true a b d = sym (same_yes a b (d.0 refl))
 decided false a b d = sym (same_no a b (λ e. false≢true (d.1 e)))
 
-module _ (ps : List Code) (q : Predicate) where
-  abbrev pub Sought : ℕ → Type 0
-  Sought i = (has (map coded ps) q ≡ has (map coded (drop i ps)) q) × (number_of (map coded ps) q ≡ i + number_of (map coded (drop i ps)) q)
+-- `==` of two predicates is whether they agree
+pub agreeing : (k q : Code) → (name_eq k.name q.name && k.arity == q.arity) ≡ predicates_agree (coded k) (coded q)
+agreeing k q =
+    ap (λ b. b && k.arity == q.arity) (decided (name_eq k.name q.name) (name_bytes k.name) (name_bytes q.name) (spelled_alike k.name q.name))
+    ∙ and_swap (same_name (name_bytes k.name) (name_bytes q.name)) (k.arity == q.arity)
+  where
+    and_swap : (a b : Bool) → (a && b) ≡ (b && a)
+    and_swap true true = refl
+    and_swap true false = refl
+    and_swap false true = refl
+    and_swap false false = refl
 
-  module _ (i : ℕ) (d : Code) (h : i < length ps) (s : d ≡ get_or ps i d) (so : Sought i) where
-    opened : drop i ps ≡ d ∷ drop (i + 1) ps
-    opened = drop_more ps i d h ∙ ap (λ x. x ∷ drop (i + 1) ps) (sym s)
+one_further : (m n : ℕ) (b : Bool) → ltb m n ≡ b → ltb m n ≡ ltb (1 + m) (suc n)
+one_further m n true e = e ∙ sym (lt-ltb (1 + m) (suc n) (omega (arith, ltb-true m n e)))
+one_further m n false e = e ∙ sym (le-ltb (1 + m) (suc n) (omega (arith, ltb-false m n e)))
 
-    pub sought_here : predicates_agree (coded d) q ≡ true → (has (map coded ps) q ≡ true) × (number_of (map coded ps) q ≡ i)
-    sought_here t =
-        let z : i + 0 ≡ i = omega arith in (
-          (so.0 ∙ ap (λ l. has (map coded l) q) opened ∙ ap (λ b. b || has (map coded (drop (i + 1) ps)) q) t),
-          (so.1 ∙ ap (λ l. i + number_of (map coded l) q) opened ∙ ap (λ b. i + cond b 0 (suc (number_of (map coded (drop (i + 1) ps)) q))) t ∙ z),
-        )
+-- a test of predicates that says whether they are q finds q's number
+module _ (q : Predicate) (is : Code → Bool) (same : (k : Code) → is k ≡ predicates_agree (coded k) q) where
+  counted_to : (ps : List Code) → number_of (map coded ps) q ≡ position_or_len is ps
+  counted_to [] = refl
+  counted_to (k ∷ ps) = ap (λ b. cond b 0 (suc (number_of (map coded ps) q))) (sym (same k)) ∙ go (is k) (counted_to ps)
+    where
+      go : (b : Bool) {m n : ℕ} → m ≡ n → cond b 0 (suc m) ≡ cond (not b) (1 + n) 0
+      go true e = refl
+      go false e = omega arith
 
-    pub sought_later : predicates_agree (coded d) q ≡ false → Sought (i + 1)
-    sought_later t =
-        let z : i + suc (number_of (map coded (drop (i + 1) ps)) q) ≡ i + 1 + number_of (map coded (drop (i + 1) ps)) q = omega arith in (
-          (so.0 ∙ ap (λ l. has (map coded l) q) opened ∙ ap (λ b. b || has (map coded (drop (i + 1) ps)) q) t),
-          (so.1 ∙ ap (λ l. i + number_of (map coded l) q) opened ∙ ap (λ b. i + cond b 0 (suc (number_of (map coded (drop (i + 1) ps)) q))) t ∙ z),
-        )
+  there : (ps : List Code) → has (map coded ps) q ≡ ltb (position_or_len is ps) (length ps)
+  there [] = refl
+  there (k ∷ ps) = ap (λ b. b || has (map coded ps) q) (sym (same k)) ∙ go (is k) (there ps)
+    where
+      go : (b : Bool) {h : Bool} → h ≡ ltb (position_or_len is ps) (length ps) → (b || h) ≡ ltb (cond (not b) (1 + position_or_len is ps) 0) (suc (length ps))
+      go true e = sym (lt-ltb 0 (suc (length ps)) (omega arith))
+      go false e = e ∙ one_further (position_or_len is ps) (length ps) (ltb (position_or_len is ps) (length ps)) refl
 
-  pub sought_none : (i : ℕ) → length ps ≤ i → Sought i → has (map coded ps) q ≡ false
-  sought_none i h so = so.0 ∙ ap (λ l. has (map coded l) q) (drop_all i ps h)
+  pub numbered_by : (ps : List Code) → Numbered (map coded ps) q (position is ps)
+  numbered_by ps =
+      let n = position_or_len is ps in
+      cond_both (ltb n (length ps)) (Some n) None (Numbered (map coded ps) q)
+      (λ e. (rw length-map (ltb-true n (length ps) e), there ps ∙ e, counted_to ps))
+      (λ e. there ps ∙ e)
 
 -- a fact's predicate
 module _ (ps : List Predicate) (f : Mention) where
@@ -83,13 +100,6 @@ module _ {T : Type 0} (view : T → Mention) (fs : List T) where
 
   pub listing_all : (i : ℕ) (ps : List Predicate) → length fs ≤ i → ListingOn i ps → listing [] (map view fs) ≡ these ps
   listing_all i ps h so = sym so ∙ ap (λ l. listing ps (map view l)) (drop_all i fs h)
-
--- a fact's count of arguments
-pub counted : (f : CodeMention) (n : ℕ) → n ≡ length (few_items f.arguments) → n ≡ length (mention f).arguments
-counted f n e = e ∙ sym (map_length term (few_items f.arguments))
-  where
-    map_length : {A B : Type 0} (g : A → B) (l : List A) → length (map g l) ≡ length l
-    map_length g l = rw length-map
 
 -- the exit of a `?`
 pub exit_listed : (l : Listing) (f : BookFault) (r : Result Predicates BookFault) → IsErrAnd r (λ y. y ≡ f) → Excess f l → Listed r l

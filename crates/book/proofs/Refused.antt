@@ -1,5 +1,5 @@
 -- Texts are refused exactly for a reason. Assumes nothing.
-use Rattle.std.proofs.Common.{◌≡◌, ℕ, ◌≤◌, Bool, true, false, leb, List, [], ◌∷◌, map, length, sym, refl, ap, ◌∙◌, subst, inl, inr}
+use Rattle.std.proofs.Common.{◌≡◌, ℕ, ◌≤◌, Bool, true, false, leb, List, [], ◌∷◌, map, length, Ok, Err, sym, refl, ap, ◌∙◌, subst, inl, inr}
 use Rattle.std.proofs.lemmas.Bool.{cond-true, cond-false, le-leb, lt-leb, leb-true, leb-false}
 use Rattle.syntax.specs.Syntax.{W, Said, Reader, Out, ok, barred, flawed}
 use Rattle.syntax.specs.Exact.{Exact}
@@ -12,8 +12,7 @@ use Rattle.syntax.proofs.Books.{book_exact, goal_exact}
 use Rattle.syntax.proofs.Raw.{books_written, goals_written}
 use Rattle.parse.specs.Flat.{content_of}
 use Rattle.parse.specs.Rules.{rule_model}
-use Rattle.lexed.specs.declared.text.Ending.{Ending}
-use Rattle.lexed.specs.declared.text.Ending.TheVariants.{Clean, Faulty}
+use Rattle.lexed.specs.Texts.{Ending}
 use Rattle.lexed.specs.Texts.{text_words, raw_words, word_places}
 use Rattle.lexed.proofs.Names.{unmarked}
 use Rattle.book.specs.Mentions.{in_rules, in_items}
@@ -32,14 +31,14 @@ same_refused f g e = ap (refusal_or f) e
 module _ {X Y : Type 0} (read : Reader X) (say : X → Said) (exact : (ws : List W) → Exact read say ws) (exactly : WrittenExactly read say) (k : X → Verdict Y) (senseless : X → Refusal → Type 0) (most : ℕ) (text : List ℕ) where
   module _ (blames : (x : X) (f : Refusal) → k x ≡ refused f → senseless x f) where
     by_out : (f : Refusal) → length text ≤ most → (end : Ending) → (text_words text).1 ≡ end → (o : Out X) → read (marked (raw_words text)) ≡ o → judged k (word_places text) end o ≡ refused f → Reason say senseless most text f
-    by_out f h (Clean n) q (ok x r) g v =
+    by_out f h (Ok n) q (ok x r) g v =
         let a = (exactly (raw_words text) (unmarked text) x).0 (g ∙ ap (ok x) ((exact (marked (raw_words text))).whole x r g)) in
         meaning x f (record { short = h; ended = (n, q); words = a.0; fine = a.1 }) (blames x f v)
-    by_out f h (Faulty l) q (ok x r) g v =
+    by_out f h (Err l) q (ok x r) g v =
         let a = ((exact (marked (raw_words text))).accepts x).0 (g ∙ ap (ok x) ((exact (marked (raw_words text))).whole x r g)) in
         subst (Reason say senseless most text) (same_refused _ f v) (misspelt l h q (inl (x, a)))
-    by_out f h (Clean n) q (barred []) g v = subst (Reason say senseless most text) (same_refused _ f v) (unfinished n h q (((exact (marked (raw_words text))).refuses []).0 g))
-    by_out f h (Faulty l) q (barred []) g v = subst (Reason say senseless most text) (same_refused _ f v) (misspelt l h q (inr (((exact (marked (raw_words text))).refuses []).0 g)))
+    by_out f h (Ok n) q (barred []) g v = subst (Reason say senseless most text) (same_refused _ f v) (unfinished n h q (((exact (marked (raw_words text))).refuses []).0 g))
+    by_out f h (Err l) q (barred []) g v = subst (Reason say senseless most text) (same_refused _ f v) (misspelt l h q (inr (((exact (marked (raw_words text))).refuses []).0 g)))
     by_out f h end q (barred (w ∷ r)) g v = subst (Reason say senseless most text) (same_refused _ f v) (barring w r h (((exact (marked (raw_words text))).refuses (w ∷ r)).0 g))
     by_out f h end q (flawed n w r) g v = subst (Reason say senseless most text) (same_refused _ f v) (faulting n w r h (((exact (marked (raw_words text))).faults n w r).0 g))
 

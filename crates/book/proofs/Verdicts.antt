@@ -1,5 +1,5 @@
 -- What the grammar's reading comes to, and what the code makes of it. Assumes nothing.
-use Rattle.std.proofs.Common.{◌≡◌, ℕ, zero, suc, ◌+◌, ◌-◌, ◌<◌, ◌≤◌, ltb, leb, ◌⊎◌, List, [], ◌∷◌, length, get_or, drop, IsErrAnd, Ok, Err, Result, sym, refl, ap, ◌∙◌, subst, inl, inr, arith}
+use Rattle.std.proofs.Common.{◌≡◌, ℕ, zero, suc, ◌+◌, ◌-◌, ◌<◌, ◌≤◌, ltb, leb, ◌⊎◌, List, [], ◌∷◌, length, get_or, drop, IsErrAnd, Ok, Err, Result, vec_items, Vec, map, sym, refl, ap, ◌∙◌, subst, inl, inr, arith}
 use Rattle.std.proofs.lemmas.Result.{err_from_is_err_and}
 use Rattle.std.proofs.lemmas.Bool.{cond-true, cond-false, lt-ltb, le-ltb, le-leb, lt-leb}
 use Rattle.std.proofs.lemmas.List.{length-map}
@@ -10,16 +10,23 @@ use Rattle.parse.specs.declared.token.Token.{Token}
 use Rattle.parse.specs.declared.flaw.Flaw.{Flaw}
 use Rattle.parse.specs.declared.flaw.Flaw.TheVariants as flaw
 use Rattle.parse.specs.Flaws.{flawed_at, Faulted}
-use Rattle.parse.specs.Rules.{Rule}
-use Rattle.lexed.specs.declared.text.Ending.{Ending}
-use Rattle.lexed.specs.declared.text.Ending.TheVariants.{Clean, Faulty}
+use Rattle.std.specs.declared.alloc.Global.{Global}
+use Rattle.syntax.specs.Tree as tree
+use Rattle.parse.specs.declared.tree.Rule.{Rule as CodeRule}
+use Rattle.parse.specs.declared.tree.Item.{Item as CodeItem}
+use Rattle.parse.specs.declared.tree.Mention.{Mention as CodeMention}
+use Rattle.parse.specs.Model.{item}
+use Rattle.parse.specs.Flat.{content_of}
+use Rattle.parse.specs.Rules.{Rule, rule_view, rule_model}
+use Rattle.parse.specs.Whole.{BookTold, GoalTold}
+use Rattle.lexed.specs.declared.text.Tokens.{Tokens}
 use Rattle.parse.specs.Tokens.{words}
-use Rattle.lexed.specs.Texts.{places, text_words, raw_words, word_places}
+use Rattle.lexed.specs.Texts.{Ending, places, text_words, raw_words, word_places}
 use Rattle.book.specs.declared.faults.BookFault.{BookFault}
 use Rattle.book.specs.declared.faults.BookFault.TheVariants.{Grammar, Unbound, Reused, InGoal, Unknown, Memory}
 use Rattle.book.specs.declared.faults.GrammarFault.{GrammarFault}
 use Rattle.book.specs.declared.faults.GrammarFault.TheVariants.{Letter, Barred, TooMany}
-use Rattle.book.specs.Endings.{BarredEnd, AtEnd}
+use Rattle.book.specs.Endings.{AtEnd, WordsTold, Wordless, Told}
 use Rattle.book.specs.Predicates.{Listing, Excess}
 use Rattle.book.specs.Reading.{Verdict, refused, refusal, end_refusal, word_refusal, judged, judged_text, with_predicates, index_refusal, refusal_of, Located, Refuses, Answers, layer_of}
 
@@ -82,23 +89,50 @@ module _ {X Y : Type 0} (k : X → Verdict Y) (ps : List ℕ) (end : Ending) (ws
   flaw_refuses (flaw.InGoal i) e o h s = refuses_by e _ (ap (judged k ps end) h.found ∙ flawed_at_index 8 i ∙ ap refused (sym s))
   flaw_refuses flaw.Memory e o h s = subst (λ x. Refuses x (judged k ps end o)) (sym s) tt
 
--- all words were read
-module _ {X Y : Type 0} (k : X → Verdict Y) (ps : List ℕ) (x : X) (o : Out X) (whole : o ≡ ok x []) where
-  pub end_fault : (end : Ending) (d : GrammarFault) → BarredEnd end (Err d) → judged k ps end o ≡ refused (refusal_of (Grammar d))
-  end_fault (Clean n) d h = absurd h
-  end_fault (Faulty e) d h = ap (judged k ps (Faulty e)) whole ∙ ap (λ y. refused (refusal_of (Grammar y))) (sym h)
+-- what the grammar's reader reads where the code says something of all words: the same, under a relation, or the same flaw
+abbrev pub Reads : {T X : Type 0} → (T → X → Type 0) → List W → Result T Flaw → Out X → Type 0
+Reads {X = X} Is ws (Ok v) o = (y : X) × Is v y × (o ≡ ok y [])
+Reads Is ws (Err f) o = Faulted ws f o
 
-  pub end_clean : (end : Ending) (m : ℕ) → BarredEnd end (Ok m) → judged k ps end o ≡ k x
-  end_clean (Clean n) m h = ap (judged k ps (Clean n)) whole
-  end_clean (Faulty e) m h = absurd h
+-- the rules of a book, and the items of a goal
+abbrev pub AreRules : Vec CodeRule Global → List tree.Rule → Type 0
+AreRules v y = map rule_model y ≡ map rule_view (vec_items v)
+
+abbrev pub AreItems : Vec (CodeItem CodeMention) Global → tree.Content → Type 0
+AreItems v y = content_of [] y ≡ map item (vec_items v)
+
+pub rules_read : (ws : List W) (r : Result (Vec CodeRule Global) Flaw) (o : Out (List tree.Rule)) → BookTold ws r o → Reads AreRules ws r o
+rules_read ws (Ok v) o h = h
+rules_read ws (Err f) o h = h
+
+pub items_read : (ws : List W) (r : Result (Vec (CodeItem CodeMention) Global) Flaw) (o : Out tree.Content) → GoalTold ws r o → Reads AreItems ws r o
+items_read ws (Ok v) o h = h
+items_read ws (Err f) o h = h
+
+-- what is told of the words of a text
+module _ {T X Y : Type 0} (Is : T → X → Type 0) (k : X → Verdict Y) (ps : List ℕ) (ws : List W) (same : length ps ≡ length ws) (o : Out X) where
+  pub told_refused : (end : Ending) (said : Result T Flaw) (e : BookFault) → Reads Is ws said o → Told ps end said (Err e) → Refuses e (judged k ps end o)
+  told_refused end (Ok v) e (y, is, whole) (l, ends, here) =
+      refuses_by e _ (ap (λ z. judged k ps z o) ends ∙ ap (judged k ps (Err l)) whole ∙ ap (λ x. refused (refusal_of x)) (sym here))
+  told_refused end (Err f) e found located = flaw_refuses k ps end ws same f e o found located
+
+  pub told_accepted : (end : Ending) (said : Result T Flaw) (v : T) → Reads Is ws said o → Told ps end said (Ok v) → (y : X) × Is v y × (judged k ps end o ≡ k y)
+  told_accepted end (Ok u) v (y, is, whole) (e, (n, ends)) = (y, subst (λ x. Is x y) (sym e) is, ap (λ z. judged k ps z o) ends ∙ ap (judged k ps (Ok n)) whole)
+  told_accepted end (Err f) v found t = absurd t
 
 -- a text within its limit, by the tokens of the code
-pub within : {X Y : Type 0} (k : X → Verdict Y) (most : ℕ) (read : List W → Out X) (text : List ℕ) (ps : List ℕ) (end : Ending) (ws : List W) → length text ≤ most → ps ≡ word_places text → end ≡ (text_words text).1 → ws ≡ marked (raw_words text) → judged_text k most read text ≡ judged k ps end (read ws)
-within k most read text ps end ws h p e w =
-    cond-true (leb (length text) most) _ _ (le-leb (length text) most h) ∙ ap (λ q. judged k q (text_words text).1 (read (marked (raw_words text)))) (sym p) ∙ ap (λ z. judged k ps z (read (marked (raw_words text)))) (sym e) ∙ ap (λ l. judged k ps end (read l)) (sym w)
+pub within : {X Y : Type 0} (k : X → Verdict Y) (most : ℕ) (read : List W → Out X) (text : List ℕ) (t : Tokens) (ts : List Token) → ts ≡ vec_items t.list → WordsTold text most (Ok t) → judged_text k most read text ≡ judged k (places (vec_items t.list)) t.ending (read (words ts))
+within k most read text t ts e (h, are) =
+    cond-true (leb (length text) most) _ _ (le-leb (length text) most h) ∙ ap (λ q. judged k q (text_words text).1 (read (marked (raw_words text)))) (sym are.places) ∙ ap (λ z. judged k (places (vec_items t.list)) z (read (marked (raw_words text)))) (sym are.ending) ∙ ap (λ l. judged k (places (vec_items t.list)) t.ending (read l)) (sym are.words ∙ ap words (sym e))
 
-pub beyond : {X Y : Type 0} (k : X → Verdict Y) (most : ℕ) (read : List W → Out X) (text : List ℕ) (e : GrammarFault) → most < length text → e ≡ Letter (TextTooLong most) → judged_text k most read text ≡ refused (refusal_of (Grammar e))
-beyond k most read text e h s = cond-false (leb (length text) most) _ _ (lt-leb (length text) most h) ∙ ap (λ x. refused (refusal_of (Grammar x))) (sym s)
+-- a text that gives no words
+pub wordless : {X Y : Type 0} (k : X → Verdict Y) (most : ℕ) (read : List W → Out X) (text : List ℕ) (e : BookFault) → Wordless text most e → Refuses e (judged_text k most read text)
+wordless k most read text (Grammar e) (h, s) = cond-false (leb (length text) most) _ _ (lt-leb (length text) most h) ∙ ap (λ x. refused (refusal_of (Grammar x))) (sym s)
+wordless k most read text (Unbound p) h = absurd h
+wordless k most read text (Reused p) h = absurd h
+wordless k most read text (InGoal p) h = absurd h
+wordless k most read text (Unknown p) h = absurd h
+wordless k most read text Memory h = tt
 
 -- a 33rd predicate
 pub excess_refuses : (e : BookFault) (l : Listing) (rules : List Rule) → Excess e l → Refuses e (with_predicates rules l)
@@ -128,5 +162,5 @@ pub as_many : (ts us : List Token) → us ≡ ts → length (places ts) ≡ leng
 as_many ts us e = places_length ts ∙ ap length (sym e) ∙ sym (words_length us)
 
 pub ended_by : (end : Ending) (e : GrammarFault) → AtEnd end e → end_refusal end ≡ refusal_of (Grammar e)
-ended_by (Clean n) e h = ap (λ x. refusal_of (Grammar x)) (sym h)
-ended_by (Faulty l) e h = ap (λ x. refusal_of (Grammar x)) (sym h)
+ended_by (Ok n) e h = ap (λ x. refusal_of (Grammar x)) (sym h)
+ended_by (Err l) e h = ap (λ x. refusal_of (Grammar x)) (sym h)

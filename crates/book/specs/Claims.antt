@@ -1,5 +1,5 @@
 -- What is claimed of the reading of texts, in the words of the grammar. Assumes nothing.
-use Rattle.std.specs.Prelude.{◌≡◌, ℕ, suc, ◌-◌, ◌<◌, ◌≤◌, ◌⊎◌, ◌↔◌, List, [], ◌∷◌, map, length, slice_index}
+use Rattle.std.specs.Prelude.{◌≡◌, ℕ, suc, ◌-◌, ◌<◌, ◌≤◌, ◌⊎◌, ◌↔◌, List, [], ◌∷◌, map, length, Ok, Err, slice_index}
 use Rattle.words.specs.declared.faults.LetterFault.{LetterFault}
 use Rattle.words.specs.Faults.{letter_number, letter_place}
 use Rattle.syntax.specs.Syntax.{W, Said, plain, Fine}
@@ -10,7 +10,6 @@ use Rattle.syntax.specs.Marking.{marked, written}
 use Rattle.parse.specs.Model.{Item}
 use Rattle.parse.specs.Flat.{content_of}
 use Rattle.parse.specs.Rules.{rule_model}
-use Rattle.lexed.specs.declared.text.Ending.TheVariants.{Clean, Faulty}
 use Rattle.lexed.specs.Texts.{text_words, raw_words, word_places}
 use Rattle.book.specs.declared.faults.Layer.TheVariants as layer
 use Rattle.book.specs.Mentions.{in_rules, in_items}
@@ -20,7 +19,7 @@ use Rattle.book.specs.Reading.{Book, accepted, refused, Refusal, refusal, layer_
 -- the words of a text, as written, are just those of a tree, none with a fault; no fault of letters ends them, and the text is short enough
 pub record Spelled {X : Type 0} (say : X → Said) (most : ℕ) (text : List ℕ) (x : X) : Type 0 where
   pub short : length text ≤ most
-  pub ended : (n : ℕ) × ((text_words text).1 ≡ Clean n)
+  pub ended : (n : ℕ) × ((text_words text).1 ≡ Ok n)
   pub words : written (plain (say x)) ≡ raw_words text
   pub fine : Fine (say x)
 
@@ -64,8 +63,8 @@ Begins {X} say text = ((x : X) × Accepts say (marked (raw_words text)) x) ⊎ R
 -- word that the grammar bars; the first word with a fault; or what the tree means, looked at last
 pub data Reason {X : Type 0} (say : X → Said) (senseless : X → Refusal → Type 0) (most : ℕ) (text : List ℕ) : Refusal → Type 0 where
   too_long : most < length text → Reason say senseless most text (refusal 1 most layer.Letters)
-  misspelt : (e : LetterFault) → length text ≤ most → (text_words text).1 ≡ Faulty e → Begins say text → Reason say senseless most text (refusal (letter_number e) (letter_place e) layer.Letters)
-  unfinished : (n : ℕ) → length text ≤ most → (text_words text).1 ≡ Clean n → Refuses say (marked (raw_words text)) [] → Reason say senseless most text (refusal 4 n layer.Grammar)
+  misspelt : (e : LetterFault) → length text ≤ most → (text_words text).1 ≡ Err e → Begins say text → Reason say senseless most text (refusal (letter_number e) (letter_place e) layer.Letters)
+  unfinished : (n : ℕ) → length text ≤ most → (text_words text).1 ≡ Ok n → Refuses say (marked (raw_words text)) [] → Reason say senseless most text (refusal 4 n layer.Grammar)
   barring : (w : W) (r : List W) → length text ≤ most → Refuses say (marked (raw_words text)) (w ∷ r) → Reason say senseless most text (refusal 4 (place_before text r) layer.Grammar)
   faulting : (n : ℕ) (w : W) (r : List W) → length text ≤ most → Faults say (marked (raw_words text)) n w r → Reason say senseless most text (refusal n (place_before text r) (layer_of n))
   meaning : (x : X) (f : Refusal) → Spelled say most text x → senseless x f → Reason say senseless most text f

@@ -10,8 +10,7 @@ use Rattle.parse.specs.declared.flaw.Flaw.TheVariants as flaw
 use Rattle.parse.specs.Model.{Item, item}
 use Rattle.parse.specs.Flat.{content_of}
 use Rattle.parse.specs.Rules.{Rule, rule_model, rule_view}
-use Rattle.lexed.specs.declared.text.Ending.{Ending}
-use Rattle.lexed.specs.declared.text.Ending.TheVariants.{Clean, Faulty}
+use Rattle.lexed.specs.Texts.{Ending}
 use Rattle.lexed.specs.Texts.{text_words, raw_words, word_places}
 use Rattle.book.specs.declared.faults.BookFault.{BookFault}
 use Rattle.book.specs.declared.faults.BookFault.TheVariants.{Grammar, Unbound, Reused, InGoal, Unknown, Memory}
@@ -47,16 +46,16 @@ layer_of n = cond (nat_le n 5) layer.Grammar layer.Meaning
 
 -- what is wrong at the end of the words: their text's first fault of letters, or that no more words come
 abbrev pub end_refusal : Ending → Refusal
-end_refusal (Clean n) = refusal 4 n layer.Grammar
-end_refusal (Faulty e) = refusal (letter_number e) (letter_place e) layer.Letters
+end_refusal (Ok n) = refusal 4 n layer.Grammar
+end_refusal (Err e) = refusal (letter_number e) (letter_place e) layer.Letters
 
 -- fault n at a word, with the words behind it
 abbrev pub word_refusal : List ℕ → ℕ → List W → Refusal
 word_refusal places n behind = refusal n (slice_index places (length places - suc (length behind))) (layer_of n)
 
 abbrev pub whole_or : {X : Type 0} → Ending → Verdict X → Verdict X
-whole_or (Clean n) v = v
-whole_or (Faulty e) v = refused (end_refusal (Faulty e))
+whole_or (Ok n) v = v
+whole_or (Err e) v = refused (end_refusal (Err e))
 
 -- what the grammar's reading of the words of a text comes to; a text's fault of letters lies behind all its words
 abbrev pub judged : {X Y : Type 0} → (X → Verdict Y) → List ℕ → Ending → Out X → Verdict Y

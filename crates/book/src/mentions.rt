@@ -1,49 +1,23 @@
 // The facts that rules mention, in the order of the text.
-ghost use Rattle.std.specs.Prelude.{◌≡◌, [], ◌++◌, map, IfOk};
+ghost use Rattle.std.specs.Prelude.{◌≡◌, [], ◌++◌, map, IfOk, OnOk};
 ghost use Rattle.parse.specs.Model.{mention, item as the-item, alternative};
-ghost use Rattle.parse.specs.Flat.{few_mentions};
 ghost use Rattle.parse.specs.Rules.{rule_view};
 ghost use Rattle.book.specs.Mentions.{in_item, in_items, in_body, in_rule, in_rules};
-ghost use Rattle.book.specs.Grown.{Grown};
 
-use parse::few::Few;
 use parse::tree::{Alternative, Item, Mention, Rule};
 use std::alloc::{AllocError, Global};
 
-fn add_heads(out: &mut Vec<Mention>, heads: Few<Mention>) -> Result<(), AllocError>
-    ensures { Grown result (map mention out.old.items) (few_mentions heads) (map mention out.new.items) }
-{
-    match heads {
-        Few::Zero => {}
-        Few::One(a) => out.push(a)?,
-        Few::Two(a, b) => {
-            out.push(a)?;
-            out.push(b)?;
-        }
-        Few::Three(a, b, c) => {
-            out.push(a)?;
-            out.push(b)?;
-            out.push(c)?;
-        }
-    }
-    Ok(())
-}
-
 fn add_item(out: &mut Vec<Mention>, item: Item<Mention>) -> Result<(), AllocError>
-    ensures { Grown result (map mention out.old.items) (in_item (the-item item)) (map mention out.new.items) }
+    ensures { OnOk result (map mention out.new.items ≡ map mention out.old.items ++ in_item (the-item item)) }
 {
     match item {
-        Item::Add(fact) => {
-            out.push(fact)?;
-            Ok(())
-        }
-        Item::Tell(_) => Ok(()),
-        Item::Fail => Ok(()),
+        Item::Add(fact) => Ok(out.push(fact)?),
+        Item::Tell(_) | Item::Fail => Ok(()),
     }
 }
 
 fn add_items(out: &mut Vec<Mention>, items: &[Item<Mention>]) -> Result<(), AllocError>
-    ensures { Grown result (map mention out.old.items) (in_items (map the-item items.now)) (map mention out.new.items) }
+    ensures { OnOk result (map mention out.new.items ≡ map mention out.old.items ++ in_items (map the-item items.now)) }
 {
     for item in items {
         add_item(out, *item)?;
@@ -52,7 +26,7 @@ fn add_items(out: &mut Vec<Mention>, items: &[Item<Mention>]) -> Result<(), Allo
 }
 
 fn add_body(out: &mut Vec<Mention>, body: &[Alternative]) -> Result<(), AllocError>
-    ensures { Grown result (map mention out.old.items) (in_body (map alternative body.now)) (map mention out.new.items) }
+    ensures { OnOk result (map mention out.new.items ≡ map mention out.old.items ++ in_body (map alternative body.now)) }
 {
     for alternative in body {
         add_items(out, &alternative.items)?;
@@ -61,10 +35,10 @@ fn add_body(out: &mut Vec<Mention>, body: &[Alternative]) -> Result<(), AllocErr
 }
 
 fn add_rule(out: &mut Vec<Mention>, rule: &Rule) -> Result<(), AllocError>
-    ensures { Grown result (map mention out.old.items) (in_rule (rule_view rule.now)) (map mention out.new.items) }
+    ensures { OnOk result (map mention out.new.items ≡ map mention out.old.items ++ in_rule (rule_view rule.now)) }
 {
-    add_heads(out, rule.kept)?;
-    add_heads(out, rule.removed)?;
+    rule.kept.append_to(out)?;
+    rule.removed.append_to(out)?;
     add_body(out, &rule.body)?;
     Ok(())
 }

@@ -1,7 +1,7 @@
 // Books and goals are read from texts of any bytes.
 ghost use Rattle.std.specs.Prelude.{◌≡◌, length};
 ghost use Rattle.lexed.specs.Texts.{places};
-ghost use Rattle.book.specs.Endings.{Ended, BarredEnd, FitsWithin, AtEnd, Placed};
+ghost use Rattle.book.specs.Endings.{BarredEnd, FitsWithin, AtEnd, Placed, fault_of, WordsTold, Told};
 ghost use Rattle.book.specs.Predicates.{predicates};
 ghost use Rattle.book.specs.Reading.{book_of, goal_of, book_view, goal_view, Answers, Located};
 
@@ -9,34 +9,23 @@ use crate::faults::{BookFault, GrammarFault};
 use crate::library::{Book, Goal};
 use crate::mentions::{in_goal, mentions};
 use crate::predicate::Predicates;
-use lexed::text::{Ending, Tokens};
+use lexed::text::Tokens;
 use lexed::whole::tokens;
 use parse::flaw::Flaw;
-use parse::tree::Mention;
 use parse::whole::{goal, rules};
 use std::alloc::Global;
 use words::faults::{LetterFault, within_limit};
 
 // The text's length, if no fault of its letters ends it.
-fn ended(ending: Ending) -> Result<usize, LetterFault>
-    ensures { Ended ending result }
-{
-    match ending {
-        Ending::Clean(n) => Ok(n),
-        Ending::Faulty(e) => Err(e),
-    }
-}
-
-// The same, in the grammar's layer.
-fn grammar_end(ending: Ending) -> Result<usize, GrammarFault>
+fn grammar_end(ending: Result<usize, LetterFault>) -> Result<usize, GrammarFault>
     ensures { BarredEnd ending result }
 {
-    let end = ended(ending)?;
+    let end = ending?;
     Ok(end)
 }
 
 // The fault of words that end too early.
-fn at_end(ending: Ending) -> GrammarFault
+fn at_end(ending: Result<usize, LetterFault>) -> GrammarFault
     ensures { AtEnd ending result }
 {
     match grammar_end(ending) {
@@ -64,31 +53,38 @@ fn place_of(tokens: &Tokens, i: usize) -> Result<usize, GrammarFault>
 }
 
 // A flaw of the words as a fault of the text, with its place.
-fn located(tokens: &Tokens, flaw: Flaw) -> BookFault
-    ensures { Located (places tokens.now.list.items) tokens.now.ending flaw result }
+fn located(tokens: &Tokens, flaw: Flaw) -> Result<BookFault, GrammarFault>
+    ensures { Located (places tokens.now.list.items) tokens.now.ending flaw (fault_of result) }
 {
-    match flaw {
-        Flaw::Barred(i) => match place_of(tokens, i) {
-            Ok(place) => BookFault::Grammar(GrammarFault::Barred(place)),
-            Err(e) => BookFault::Grammar(e),
-        },
-        Flaw::TooMany(i) => match place_of(tokens, i) {
-            Ok(place) => BookFault::Grammar(GrammarFault::TooMany(place)),
-            Err(e) => BookFault::Grammar(e),
-        },
-        Flaw::Unbound(i) => match place_of(tokens, i) {
-            Ok(place) => BookFault::Unbound(place),
-            Err(e) => BookFault::Grammar(e),
-        },
-        Flaw::Reused(i) => match place_of(tokens, i) {
-            Ok(place) => BookFault::Reused(place),
-            Err(e) => BookFault::Grammar(e),
-        },
-        Flaw::InGoal(i) => match place_of(tokens, i) {
-            Ok(place) => BookFault::InGoal(place),
-            Err(e) => BookFault::Grammar(e),
-        },
+    Ok(match flaw {
+        Flaw::Barred(i) => BookFault::Grammar(GrammarFault::Barred(place_of(tokens, i)?)),
+        Flaw::TooMany(i) => BookFault::Grammar(GrammarFault::TooMany(place_of(tokens, i)?)),
+        Flaw::Unbound(i) => BookFault::Unbound(place_of(tokens, i)?),
+        Flaw::Reused(i) => BookFault::Reused(place_of(tokens, i)?),
+        Flaw::InGoal(i) => BookFault::InGoal(place_of(tokens, i)?),
         Flaw::Memory => BookFault::Memory,
+    })
+}
+
+// The words of a text that keeps within its limit.
+fn words_within(heap: Global, text: &[u8], limit: usize) -> Result<Tokens, BookFault>
+    ensures { WordsTold text.now limit result }
+{
+    fits_within(text, limit)?;
+    let tokens = tokens(heap, text)?;
+    Ok(tokens)
+}
+
+// What the words of a text say; or the fault of a word, or of the letters that end the text.
+fn told<T: Drop>(tokens: &Tokens, said: Result<T, Flaw>) -> Result<T, BookFault>
+    ensures { Told (places tokens.now.list.items) tokens.now.ending said result }
+{
+    match said {
+        Ok(meant) => {
+            grammar_end(tokens.ending)?;
+            Ok(meant)
+        }
+        Err(flaw) => Err(located(tokens, flaw)?),
     }
 }
 
@@ -96,13 +92,8 @@ fn located(tokens: &Tokens, flaw: Flaw) -> BookFault
 pub fn read_book(heap: Global, text: &[u8]) -> Result<Book, BookFault>
     ensures { Answers book_view result (book_of text.now) }
 {
-    fits_within(text, 8192)?;
-    let tokens = tokens(heap, text)?;
-    let rules = match rules(heap, &tokens.list) {
-        Ok(rules) => rules,
-        Err(flaw) => return Err(located(&tokens, flaw)),
-    };
-    grammar_end(tokens.ending)?;
+    let tokens = words_within(heap, text, 8192)?;
+    let rules = told(&tokens, rules(heap, &tokens.list))?;
     let facts = mentions(heap, &rules)?;
     let predicates = Predicates::of(heap, &facts)?;
     Ok(Book { predicates, rules })
@@ -112,13 +103,8 @@ pub fn read_book(heap: Global, text: &[u8]) -> Result<Book, BookFault>
 pub fn read_goal(heap: Global, book: &Book, text: &[u8]) -> Result<Goal, BookFault>
     ensures { Answers goal_view result (goal_of (predicates book.now.predicates) text.now) }
 {
-    fits_within(text, 1024)?;
-    let tokens = tokens(heap, text)?;
-    let items = match goal(heap, &tokens.list) {
-        Ok(items) => items,
-        Err(flaw) => return Err(located(&tokens, flaw)),
-    };
-    grammar_end(tokens.ending)?;
+    let tokens = words_within(heap, text, 1024)?;
+    let items = told(&tokens, goal(heap, &tokens.list))?;
     let facts = in_goal(heap, &items)?;
     if let Some(place) = book.predicates.first_unknown(&facts) {
         return Err(BookFault::Unknown(place));

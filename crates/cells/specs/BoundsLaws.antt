@@ -1,26 +1,21 @@
 -- The laws of bounds.
-use Rattle.std.specs.Prelude.{◌≡◌, ℕ, ◌+◌, ◌-◌, ◌*◌, ◌/◌, ◌%◌, ◌<◌, ◌≤◌, Bool, true, false, cond, ◌&&◌, ℤ, pos, negsuc, ◌+ℤ◌, ◌-ℤ◌, ◌≤ℤ◌, Some, None, Decides, Option, int_le, nat_le, unsigned_abs, refl}
-use Rattle.std.proofs.Common.{sym, ap, ap₂, ◌∙◌, subst, arith, div-add-mod'}
+use Rattle.std.specs.Prelude.{◌≡◌, ℕ, ◌+◌, ◌-◌, ◌*◌, ◌/◌, ◌%◌, ◌<◌, ◌≤◌, Bool, true, false, cond, ◌&&◌, ℤ, pos, negsuc, ◌+ℤ◌, ◌-ℤ◌, ◌≤ℤ◌, Some, None, Option, int_le, nat_le, unsigned_abs, refl}
+use Rattle.std.proofs.Common.{sym, ap, ap₂, ◌∙◌, arith, div-add-mod'}
 use Rattle.std.proofs.lemmas.Int.{ints}
 use Rattle.std.proofs.lemmas.Bool.{and_parts, and_from, leb-true, le-leb, true≢false}
 use Rattle.std.proofs.lemmas.Nat.{div-mul-add, mod-mul-add}
-use Rattle.cells.specs.declared.relations.Relation.{Relation}
 use Rattle.cells.specs.declared.relations.Telling.{Telling}
-use Rattle.cells.specs.Relations.{holds, meets}
+use Rattle.cells.specs.Relations.{meets}
 use Rattle.cells.specs.Laws.{between, tally, Ends, Fits64, Inhabited, Confined, Extensional, Entire, Leaves, Narrows, Answers, First, Last, Counts}
 use Rattle.cells.specs.declared.spans.Span.{Span}
-use Rattle.cells.specs.Spans.{span, within, raised, lowered, all_satisfy}
+use Rattle.cells.specs.Spans.{span, raised, lowered}
 use Rattle.cells.specs.Bounds.{bounds_ends, low_of, high_of, packed, is_bounds, bounds_member, bounds_from, bounds_narrowed, bounds_asked, bounds_least, bounds_greatest, bounds_counted}
-use Rattle.cells.specs.SpanLaws.{clipped, all_said, raised_above, lowered_below, ends_some, asks}
+use Rattle.cells.specs.SpanLaws.{clipped, raised_above, lowered_below, asked_by_ends, least_by_ends, greatest_by_ends, ends_some}
 use Rattle.cells.specs.Tallies.{tally_same, tally_none, tally_middle}
 
 -- a content's ends, as natural numbers
 ends_are : (c : ℕ) → is_bounds c ≡ true → (c / 4294967296 ≤ c % 4294967296) × (c % 4294967296 ≤ 2000000000)
 ends_are c e = let p = and_parts (nat_le (c / 4294967296) (c % 4294967296)) (nat_le (c % 4294967296) 2000000000) e in (leb-true _ _ p.0, leb-true _ _ p.1)
-
--- a natural number less a thousand million, and back
-shifted : (a : ℕ) → (pos a -ℤ pos 1000000000) +ℤ pos 1000000000 ≡ pos a
-shifted a = omega (arith, ints)
 
 ordered : (c : ℕ) → is_bounds c ≡ true → low_of c ≤ℤ high_of c
 ordered c e = let h = ends_are c e in omega (arith, ints)
@@ -110,34 +105,18 @@ narrows c t n = at (is_bounds c) refl
     at true e = made e (int_le (raised (low_of c) t n) (lowered (high_of c) t n)) refl
     at false e = λ v m k. true≢false (sym (inside c v m).0 ∙ e)
 
-pub answers : Answers bounds_member bounds_asked
-answers c r n = at (is_bounds c) refl
-  where
-    there : is_bounds c ≡ true → bounds_member c n ≡ between (low_of c) (high_of c) n
-    there e = ap (λ (x : Bool). x && between (low_of c) (high_of c) n) e
+-- in a content, a member is what lies between the ends
+amid_ends : (c : ℕ) (n : ℤ) → is_bounds c ≡ true → bounds_member c n ≡ between (low_of c) (high_of c) n
+amid_ends c n e = ap (λ (x : Bool). x && between (low_of c) (high_of c) n) e
 
-    at : (b : Bool) → is_bounds c ≡ b
-        → Decides (cond b (all_satisfy (low_of c) (high_of c) (between (low_of c) (high_of c) n) r n) true) ((v : ℤ) → bounds_member c v ≡ true → holds r v n ≡ true)
-    at true e =
-        subst
-        (λ (x : Bool). Decides (all_satisfy (low_of c) (high_of c) x r n) ((v : ℤ) → bounds_member c v ≡ true → holds r v n ≡ true))
-        (there e)
-        (all_said (bounds_member c) (low_of c) (high_of c) (has_low c e) (has_high c e) (λ v m. let p = inside c v m in (p.1, p.2)) r n)
-    at false e = ((λ _ v m. absurd (true≢false (sym (inside c v m).0 ∙ e))), λ _. refl)
+pub answers : Answers bounds_member bounds_asked
+answers = asked_by_ends is_bounds bounds_member low_of high_of (λ c n. between (low_of c) (high_of c) n) has_low has_high inside amid_ends
 
 pub leasts : (c : ℕ) → First is_bounds bounds_member c (bounds_least c)
-leasts c = at (is_bounds c) refl
-  where
-    at : (b : Bool) → is_bounds c ≡ b → First is_bounds bounds_member c (cond b (Some (low_of c)) None)
-    at true e = (has_low c e, λ w m. (inside c w m).1)
-    at false e = e
+leasts = least_by_ends is_bounds bounds_member low_of high_of bounds_member has_low has_high inside (λ c n e. refl)
 
 pub greatests : (c : ℕ) → Last is_bounds bounds_member c (bounds_greatest c)
-greatests c = at (is_bounds c) refl
-  where
-    at : (b : Bool) → is_bounds c ≡ b → Last is_bounds bounds_member c (cond b (Some (high_of c)) None)
-    at true e = (has_high c e, λ w m. (inside c w m).2)
-    at false e = e
+greatests = greatest_by_ends is_bounds bounds_member low_of high_of bounds_member has_low has_high inside (λ c n e. refl)
 
 -- of the numbers from the lowest on, those before a, from a to b, and after b
 module _ (a b : ℕ) (o : a ≤ b) where
@@ -175,12 +154,6 @@ counts c = at (is_bounds c) refl
 -- the ends that a number holds, if some came
 holds_ends : (c : ℕ) (s : Span) → Some s ≡ bounds_ends c → (is_bounds c ≡ true) × (s.low ≡ low_of c) × (s.high ≡ high_of c)
 holds_ends c s e = ends_some (is_bounds c) (low_of c) (high_of c) s e
-
-pub bounds_asks : (c : ℕ) (s : Span) (r : Relation) {m n : ℤ} {x has : Bool} → m ≡ n → Some s ≡ bounds_ends c → has ≡ within s m
-    → x ≡ all_satisfy s.low s.high has r m → x ≡ bounds_asked c r n
-bounds_asks c s r {m} same e h a =
-    let p = holds_ends c s e in
-    asks (is_bounds c) (low_of c) (high_of c) (between (low_of c) (high_of c)) s r same e (h ∙ ap₂ (λ (x y : ℤ). between x y m) p.1 p.2) a
 
 -- bounds_narrowed, at the ends of a content
 at_ends : (c : ℕ) (s : Span) (t : Telling) (n : ℤ) → Some s ≡ bounds_ends c
@@ -220,17 +193,4 @@ clips_some c s left t {n = n} same e h =
       ap₂ (λ (x y : ℤ). Some (packed x y)) q.1 q.2
           ∙ sym (ap (λ (b : Bool). cond b (Some (packed (raised s.low t n) (lowered s.high t n))) None) q.0)
           ∙ at_ends c s t n e,
-    )
-
--- how many numbers lie from end to end
-pub counted_by : (c : ℕ) (s : Span) → Some s ≡ bounds_ends c
-    → (s.low ≤ℤ s.high) × (negsuc 999999999 ≤ℤ s.low) × (s.high ≤ℤ pos 1000000000) × ((k : ℕ) → pos k ≡ (s.high -ℤ s.low) +ℤ pos 1 → k ≡ bounds_counted c)
-counted_by c s e =
-    let p = holds_ends c s e in
-    let h = ends_are c p.0 in (
-      omega (arith, ints, p.1, p.2),
-      omega (arith, ints, p.1),
-      omega (arith, ints, p.2),
-      λ k j. (let i : k ≡ c % 4294967296 + 1 - c / 4294967296 = omega (arith, ints, p.1, p.2, j) in i)
-          ∙ sym (ap (λ (b : Bool). cond b (c % 4294967296 + 1 - c / 4294967296) 0) p.0),
     )

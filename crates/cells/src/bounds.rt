@@ -121,9 +121,6 @@ impl Kind for Bounds {
     }
 
     fn count(c: u64) -> u32 {
-        match ends(c) {
-            Some(s) => (s.high - s.low + 1) as u32,
-            None => 0,
-        }
+        ends(c).map_or(0, |s| s.high.abs_diff(s.low) + 1)
     }
 }

@@ -1,5 +1,5 @@
 -- Each word takes a byte at least, so no word is missed. Assumes nothing.
-use Rattle.std.proofs.Common.{◌≡◌, ℕ, zero, suc, ◌+◌, ◌<◌, ◌≤◌, Bool, true, false, cond, ◌&&◌, eqb, ltb, leb, List, [], length, get_or, take, drop, Some, None, Option, sym, refl, ap, arith, lit<}
+use Rattle.std.proofs.Common.{◌≡◌, ℕ, zero, suc, ◌+◌, ◌<◌, ◌≤◌, Bool, true, false, cond, ◌&&◌, eqb, ltb, leb, List, [], length, get_or, take, drop, Some, None, Ok, Option, sym, refl, ap, subst, arith, lit<}
 use Rattle.std.specs.List.{prefix_len}
 use Rattle.std.proofs.lemmas.List.Sums.{prefix_len-drop_yes}
 use Rattle.std.proofs.lemmas.Bool.{ltb-true, le-ltb, and_parts, cond_both, cond-false}
@@ -11,8 +11,8 @@ use Rattle.words.specs.declared.marks.Mark.TheVariants as mark
 use Rattle.words.specs.declared.sorts.Sort.{Sort}
 use Rattle.words.specs.declared.sorts.Sort.TheVariants as sorts
 use Rattle.words.specs.Lex.{Lexeme, name, variable, number, Read, end, word, stray, long, value, fits, read_name, number_part, signed, by_sort, word_at}
-use Rattle.lexed.specs.declared.text.Ending.TheVariants.{Clean}
-use Rattle.lexed.specs.Texts.{raw_word, before, met, words_from, turns, WordByWord}
+use Rattle.parse.specs.Raw.{raw_word}
+use Rattle.lexed.specs.Texts.{before, met, words_from, turns, WordByWord}
 
 -- a word ends behind a place
 abbrev Moves : ℕ → Read → Type 0
@@ -102,7 +102,7 @@ moves text at =
     (λ e. let h : at ≤ s = omega arith in sooner at s (by_sort (sort (get_or text s 0)) text s) h (moves_sort text s (ltb-true s (length text) e)))
     (λ e. tt)
 
-past : (text : List ℕ) (k at : ℕ) → length text ≤ at → words_from (suc k) text at ≡ ([], Clean (length text))
+past : (text : List ℕ) (k at : ℕ) → length text ≤ at → words_from (suc k) text at ≡ ([], Ok (length text))
 past text k at h =
     let s = at + prefix_len white (drop at text) in
     let l : length text ≤ s = omega arith in
@@ -123,3 +123,7 @@ enough text (suc k) (suc m) at h g = onward text at k m (word_at text at) (moves
 
 pub word_by_word : WordByWord
 word_by_word text at = enough text (turns text) (suc (turns text)) at (omega arith) (omega arith)
+
+-- a word read from a place on ends behind it
+pub ends_behind : (text : List ℕ) (at : ℕ) (l : Lexeme) (s e : ℕ) → word l s e ≡ word_at text at → at < e
+ends_behind text at l s e h = subst (Moves at) (sym h) (moves text at)

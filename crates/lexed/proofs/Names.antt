@@ -9,13 +9,8 @@ use Rattle.syntax.specs.Syntax.{W, name, sign}
 use Rattle.syntax.specs.Marking.{written_word, Raw}
 use Rattle.syntax.specs.Marks.{true_word, fail_word}
 use Rattle.syntax.specs.Grammar.{same_name, true_name, fail_name}
-use Rattle.parse.proofs.Names.{same_no}
-use Rattle.lexed.specs.Texts.{Cut, mark_code, name_word, raw_word, met, words_from, text_words, Unmarked}
-
-pub other_name : (s : List ℕ) → (s ≡ true_name → ⊥) → (s ≡ fail_name → ⊥) → (p : ℕ) → name p s ≡ name_word p s
-other_name s a b p =
-    sym (ap (λ t. cond t (sign true_word) (cond (same_name s fail_name) (sign fail_word) (name p s))) (same_no s true_name a)
-    ∙ ap (λ t. cond t (sign fail_word) (name p s)) (same_no s fail_name b))
+use Rattle.parse.specs.Raw.{mark_code, raw_word}
+use Rattle.lexed.specs.Texts.{Cut, met, words_from, text_words, Unmarked}
 
 mark_unmarked : (m : Mark) → written_word (sign (mark_code m)) ≡ sign (mark_code m)
 mark_unmarked mark.At = refl

@@ -2,16 +2,9 @@
 use parse::token::Token;
 use words::faults::LetterFault;
 
-// A text ends at its last byte, whose number of bytes is told, or at a fault of its letters.
-#[derive(Clone, Copy, Debug, PartialEq, Eq)]
-pub enum Ending {
-    Clean(usize),
-    Faulty(LetterFault),
-}
-
-// The words up to the end.
+// The words up to the end: the text's last byte, whose number of bytes is told, or a fault of its letters.
 #[derive(Drop)]
 pub struct Tokens {
     pub list: Vec<Token>,
-    pub ending: Ending,
+    pub ending: Result<usize, LetterFault>,
 }

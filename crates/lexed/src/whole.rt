@@ -33,7 +33,6 @@ pub fn words_come_unmarked()
 #[cfg(test)]
 mod tests {
     use super::*;
-    use crate::text::Ending;
     use parse::token::{Lexeme, Sign};
     use std::test::Fail;
 
@@ -46,7 +45,7 @@ mod tests {
         assert!(rt; matches!(told.list[8].lexeme, Lexeme::Weight(_)));
         assert!(rt; matches!(told.list[10].lexeme, Lexeme::Sign(Sign::True)));
         assert!(rt; told.list[13].place == 30);
-        assert!(rt; matches!(told.ending, Ending::Clean(31)));
+        assert!(rt; matches!(told.ending, Ok(31)));
         Ok(())
     }
 
@@ -56,7 +55,7 @@ mod tests {
         assert!(rt; told.list.len() == 6);
         assert!(rt; matches!(told.list[1].lexeme, Lexeme::Sign(Sign::Propagate)));
         assert!(rt; matches!(told.list[2].lexeme, Lexeme::Weight(_)));
-        assert!(rt; matches!(told.ending, Ending::Faulty(_)));
+        assert!(rt; told.ending.is_err());
         Ok(())
     }
 }

@@ -7,3 +7,4 @@ pub mod Names
 pub mod Places
 pub mod Rows
 pub mod Variables
+pub mod OtherNames

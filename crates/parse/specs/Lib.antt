@@ -7,3 +7,4 @@ pub mod Scopes
 pub mod Tokens
 pub mod Whole
 pub mod Starts
+pub mod Raw

@@ -8,6 +8,7 @@ mod guards;
 mod heads;
 mod leaf;
 pub mod number;
+pub mod raw;
 mod rules;
 pub mod scope;
 mod starts;

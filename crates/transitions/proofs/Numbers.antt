@@ -18,7 +18,8 @@ use Rattle.syntax.specs.Tree as tree
 use Rattle.syntax.specs.Grammar.{Scope, same, same_name, true_name, fail_name, count, say_number}
 use Rattle.parse.specs.Flaws.{listed}
 use Rattle.parse.specs.Flat as flat
-use Rattle.lexed.specs.Texts.{Cut, name_word, met, words_from, turns, text_words, raw_words}
+use Rattle.parse.specs.Raw.{name_word}
+use Rattle.lexed.specs.Texts.{Cut, met, words_from, turns, text_words, raw_words}
 use Rattle.steps.specs.Relations.{In, here, there, Every, every_none, every_more, Within}
 
 -- a number among the words is that small

@@ -18,8 +18,7 @@ use Rattle.parse.specs.Flat.{left_term, argument_term, item_of, content_of}
 use Rattle.parse.specs.Model as model
 use Rattle.parse.specs.Rules.{rule_model}
 use Rattle.parse.specs.Rules as written
-use Rattle.lexed.specs.declared.text.Ending.{Ending}
-use Rattle.lexed.specs.declared.text.Ending.TheVariants.{Clean, Faulty}
+use Rattle.lexed.specs.Texts.{Ending}
 use Rattle.lexed.specs.Texts.{text_words, raw_words, word_places}
 use Rattle.book.specs.declared.faults.Layer.TheVariants as layer
 use Rattle.book.specs.Mentions.{in_rules, in_items}
@@ -41,8 +40,8 @@ no_accepted e = let z : ◌≡◌ {A = ℕ} 0 1 = cc in absurd (omega arith)
 
 -- what is accepted was read
 judged_ok : {X Y : Type 0} (meaning : X → Verdict Y) (places : List ℕ) (end : Ending) (o : Out X) (y : Y) → judged meaning places end o ≡ accepted y → (x : X) × (r : List W) × (o ≡ ok x r) × (meaning x ≡ accepted y)
-judged_ok meaning places (Clean n) (ok x r) y e = (x, r, refl, e)
-judged_ok meaning places (Faulty f) (ok x r) y e = no_accepted e
+judged_ok meaning places (Ok n) (ok x r) y e = (x, r, refl, e)
+judged_ok meaning places (Err f) (ok x r) y e = no_accepted e
 judged_ok meaning places end (barred []) y e = no_accepted e
 judged_ok meaning places end (barred (w ∷ r)) y e = no_accepted e
 judged_ok meaning places end (flawed n w r) y e = no_accepted e

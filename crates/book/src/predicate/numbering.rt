@@ -1,68 +1,48 @@
 // Predicates are numbered as facts mention them.
-ghost use Rattle.std.specs.Prelude.{◌≡◌, [], ◌++◌, map, length};
-ghost use Rattle.words.specs.Names.{name_bytes};
-ghost use Rattle.parse.specs.Fews.{few_items};
+ghost use Rattle.std.specs.Prelude.{◌≡◌, [], map, position};
 ghost use Rattle.parse.specs.Model.{mention};
 ghost use Rattle.book.specs.Predicates.{coded, predicates_agree, predicates, predicate_of, Numbered, Noted, Listed, listing, has, unknowns, UnknownTold};
 
 use crate::faults::{BookFault, GrammarFault};
 use crate::predicate::{Predicate, Predicates};
-use parse::few::Few;
-use parse::tree::{Mention, Term};
+use parse::tree::Mention;
 use std::alloc::Global;
-use words::name::Name;
-use words::name::spelling::same_name;
 
 // A book has at most so many predicates.
 const MOST_PREDICATES: usize = 32;
 
-// How many arguments a fact has.
-fn arity(arguments: Few<Term>) -> u8
-    ensures { result ≡ length (few_items arguments) }
-{
-    match arguments {
-        Few::Zero => 0,
-        Few::One(_) => 1,
-        Few::Two(_, _) => 2,
-        Few::Three(_, _, _) => 3,
+impl Predicate {
+    // The predicate of a fact: its name, and how many arguments it has.
+    pub fn of(fact: &Mention) -> Predicate
+        ensures { coded result ≡ predicate_of (mention fact.now) }
+    {
+        Predicate {
+            name: fact.name,
+            arity: fact.arguments.len(),
+        }
     }
-}
-
-// Whether a predicate has this name and count of arguments.
-fn same_predicate(predicate: &Predicate, name: &Name, arity: u8) -> bool
-    ensures { result ≡ predicates_agree (coded predicate.now) (name_bytes name.now, arity) }
-{
-    predicate.arity == arity && same_name(&predicate.name, name)
 }
 
 // Where in a table a predicate stands first, if it does.
-fn position(list: &[Predicate], name: &Name, arity: u8) -> Option<usize>
-    ensures { Numbered (map coded list.now) (name_bytes name.now, arity) result }
+fn position(list: &[Predicate], predicate: &Predicate) -> Option<usize>
+    ensures { result ≡ position (λ k. ⟦<Predicate as PartialEq>⟧.eq k predicate.now) list.now }
 {
-    for (i, predicate) in list.iter().enumerate() {
-        if same_predicate(predicate, name, arity) {
-            return Some(i);
-        }
-    }
-    None
+    list.iter().position(|known| known == predicate)
 }
 
 impl Predicates {
     // The number of a predicate, if it is among these.
-    pub fn number(&self, name: &Name, arity: u8) -> Option<usize>
-        ensures { Numbered (predicates self.now) (name_bytes name.now, arity) result }
+    pub fn number(&self, predicate: &Predicate) -> Option<usize>
+        ensures { Numbered (predicates self.now) (coded predicate.now) result }
     {
-        position(&self.list, name, arity)
+        position(&self.list, predicate)
     }
 
     // Whether a fact's predicate is among these.
     pub fn knows(&self, fact: &Mention) -> bool
         ensures { result ≡ has (predicates self.now) (predicate_of (mention fact.now)) }
     {
-        match self.number(&fact.name, arity(fact.arguments)) {
-            Some(_) => true,
-            None => false,
-        }
+        self.number(&Predicate::of(fact)).is_some()
     }
 
     // Where the first fact stands whose predicate is not among these.
@@ -87,11 +67,7 @@ impl Predicates {
         if self.list.len() >= MOST_PREDICATES {
             return Err(BookFault::Grammar(GrammarFault::TooMany(fact.place)));
         }
-        let count = arity(fact.arguments);
-        self.list.push(Predicate {
-            name: fact.name,
-            arity: count,
-        })?;
+        self.list.push(Predicate::of(fact))?;
         Ok(())
     }
 

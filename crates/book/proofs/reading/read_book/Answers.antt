@@ -1,71 +1,55 @@
-use Rattle.std.proofs.Common.{[], map, vec_items, sym, ap, ◌∙◌}
-use Rattle.parse.specs.Tokens.{words}
-use Rattle.lexed.specs.Texts.{places}
-use Rattle.book.specs.declared.faults.BookFault.TheVariants.{Grammar}
-use Rattle.book.proofs.Verdicts.{exit_book, refuses_as, flaw_refuses, end_fault, end_clean, within, beyond, excess_refuses, as_many}
+use Rattle.std.proofs.Common.{◌≡◌, ℕ, List, [], map, Ok, Result, Vec, vec_items, sym, ap, ◌∙◌}
+use Rattle.std.specs.declared.alloc.Global.{Global}
 use Rattle.syntax.specs.Readers.{read_book}
+use Rattle.parse.specs.Tokens.{words}
+use Rattle.parse.specs.declared.token.Token.{Token}
+use Rattle.parse.specs.declared.flaw.Flaw.{Flaw}
+use Rattle.parse.specs.declared.tree.Rule.{Rule as CodeRule}
+use Rattle.parse.specs.declared.tree.Mention.{Mention as CodeMention}
+use Rattle.parse.specs.Whole.{BookTold}
 use Rattle.parse.specs.Model.{mention}
-use Rattle.parse.specs.Rules.{rule_view, rule_model}
+use Rattle.lexed.specs.declared.text.Tokens.{Tokens}
+use Rattle.parse.specs.Rules.{rule_view}
+use Rattle.lexed.specs.Texts.{places}
+use Rattle.book.specs.Endings.{WordsTold, Told}
 use Rattle.book.specs.Mentions.{in_rules}
 use Rattle.book.specs.Predicates.{listing}
 use Rattle.book.specs.Reading.{book_of, book_view, book_meaning, with_predicates}
+use Rattle.book.proofs.Verdicts.{AreRules, rules_read, exit_book, refuses_as, told_refused, told_accepted, within, wordless, excess_refuses, as_many}
 use Rattle.book.proofs.reading.read_book.Goals as goal
 
-pub returns-in_err-fits_within : goal.returns-in_err-fits_within
+pub returns-in_err-tokens : goal.returns-in_err-tokens
 unfolding book_of
-returns-in_err-fits_within c =
-    let b = c.in_err-fits_within.ensures in
-    exit_book book_view (book_of c.args.text.now) (Grammar c.in_err-fits_within.field-0.0) c.from_residual.result c.from_residual.ensures.1 (beyond book_meaning 8192 read_book c.args.text.now c.in_err-fits_within.field-0.0 b.0 b.1)
+returns-in_err-tokens c =
+    let e = c.in_err-tokens.field-0.0 in
+    exit_book book_view (book_of c.args.text.now) e c.from_residual.result c.from_residual.ensures.1 (wordless book_meaning 8192 read_book c.args.text.now e c.in_err-tokens.ensures)
 
-pub returns-in-Err : goal.returns-in-Err
+pub returns-in_err-rules : goal.returns-in_err-rules
 unfolding book_of
-returns-in-Err c =
-    let text = c.args.text.now in
-    let t = c.in_ok-tokens.ensures in
-    let ps = places (vec_items c.in_ok-tokens.tokens.list) in
-    let ws = words c.deref.result.now in
-    let end = c.in_ok-tokens.tokens.ending in
-    let opened = within book_meaning 8192 read_book text ps end ws c.in_ok-fits_within.ensures t.places t.ending (ap words c.deref.ensures.value ∙ t.words) in
-    refuses_as c.located.result opened (flaw_refuses book_meaning ps end ws (as_many (vec_items c.in_ok-tokens.tokens.list) c.deref.result.now c.deref.ensures.value) c.in-Err.flaw c.located.result (read_book ws) c.in-Err.ensures c.located.ensures)
+returns-in_err-rules c =
+    let t = c.in_ok-tokens.tokens in
+    let ts = c.deref.result.now in
+    let e = c.in_err-rules.field-0.0 in
+    let opened = within book_meaning 8192 read_book c.args.text.now t ts c.deref.ensures.value c.in_ok-tokens.ensures in
+    exit_book book_view (book_of c.args.text.now) e c.from_residual-in_err-rules.result c.from_residual-in_err-rules.ensures.1
+    (refuses_as e opened (told_refused AreRules book_meaning (places (vec_items t.list)) (words ts) (as_many (vec_items t.list) ts c.deref.ensures.value) (read_book (words ts)) t.ending c.rules.result e (rules_read (words ts) c.rules.result (read_book (words ts)) c.rules.ensures) c.in_err-rules.ensures))
 
-pub returns-in_err-grammar_end : goal.returns-in_err-grammar_end
+-- the rules are those of the text, and what is left is to number their predicates
+numbered : (text : List ℕ) (t : Tokens) (ts : List Token) (said : Result (Vec CodeRule Global) Flaw) (v : Vec CodeRule Global) (rules : List CodeRule) (facts : Vec CodeMention Global) (listed : List CodeMention) → ts ≡ vec_items t.list → WordsTold text 8192 (Ok t) → BookTold (words ts) said (read_book (words ts)) → Told (places (vec_items t.list)) t.ending said (Ok v) → rules ≡ vec_items v → map mention (vec_items facts) ≡ in_rules (map rule_view rules) → listed ≡ vec_items facts → book_of text ≡ with_predicates (map rule_view (vec_items v)) (listing [] (map mention listed))
 unfolding book_of
-returns-in_err-grammar_end c =
-    let text = c.args.text.now in
-    let t = c.in_ok-tokens.ensures in
-    let ps = places (vec_items c.in_ok-tokens.tokens.list) in
-    let ws = words c.deref.result.now in
-    let end = c.in_ok-tokens.tokens.ending in
-    let opened = within book_meaning 8192 read_book text ps end ws c.in_ok-fits_within.ensures t.places t.ending (ap words c.deref.ensures.value ∙ t.words) in
-    let k = c.in-Ok.ensures in
-    exit_book book_view (book_of c.args.text.now) (Grammar c.in_err-grammar_end.field-0.0) c.from_residual-in_err-grammar_end.result c.from_residual-in_err-grammar_end.ensures.1 (opened ∙ end_fault book_meaning ps k.0 (read_book ws) k.2 end c.in_err-grammar_end.field-0.0 c.in_err-grammar_end.ensures)
+numbered text t ts said v rules facts listed e held b told r f l =
+    let ws = words ts in
+    let k = told_accepted AreRules book_meaning (places (vec_items t.list)) ws (as_many (vec_items t.list) ts e) (read_book ws) t.ending said v (rules_read ws said (read_book ws) b) told in
+    within book_meaning 8192 read_book text t ts e held ∙ k.2 ∙ ap (λ z. with_predicates z (listing [] (in_rules z))) k.1
+    ∙ ap (λ z. with_predicates (map rule_view (vec_items v)) (listing [] z)) (ap (λ z. in_rules (map rule_view z)) (sym r) ∙ sym f ∙ ap (map mention) (sym l))
 
 pub returns-in_err-predicates : goal.returns-in_err-predicates
-unfolding book_of
 returns-in_err-predicates c =
-    let text = c.args.text.now in
-    let t = c.in_ok-tokens.ensures in
-    let ps = places (vec_items c.in_ok-tokens.tokens.list) in
-    let ws = words c.deref.result.now in
-    let end = c.in_ok-tokens.tokens.ending in
-    let opened = within book_meaning 8192 read_book text ps end ws c.in_ok-fits_within.ensures t.places t.ending (ap words c.deref.ensures.value ∙ t.words) in
-    let k = c.in-Ok.ensures in
-    let clean = end_clean book_meaning ps k.0 (read_book ws) k.2 end _ c.in_ok-grammar_end.ensures in
-    let same = ap (λ l. with_predicates (map rule_model k.0) (listing [] (in_rules l))) k.1 in
-    let got = ap (λ l. in_rules (map rule_view l)) (sym c.deref-2.ensures.value) ∙ sym c.in_ok-facts.ensures ∙ ap (map mention) (sym c.deref-3.ensures.value) in
-    exit_book book_view (book_of text) c.in_err-predicates.field-0.0 c.from_residual-in_err-predicates.result c.from_residual-in_err-predicates.ensures.1 (refuses_as c.in_err-predicates.field-0.0 (opened ∙ clean ∙ same ∙ ap (λ l. with_predicates (map rule_model k.0) (listing [] l)) got) (excess_refuses c.in_err-predicates.field-0.0 _ (map rule_model k.0) c.in_err-predicates.ensures))
+    let e = c.in_err-predicates.field-0.0 in
+    let n = numbered c.args.text.now c.in_ok-tokens.tokens c.deref.result.now c.rules.result c.in_ok-rules.rules c.deref-2.result.now c.in_ok-facts.facts c.deref-3.result.now c.deref.ensures.value c.in_ok-tokens.ensures c.rules.ensures c.in_ok-rules.ensures c.deref-2.ensures.value c.in_ok-facts.ensures c.deref-3.ensures.value in
+    exit_book book_view (book_of c.args.text.now) e c.from_residual-in_err-predicates.result c.from_residual-in_err-predicates.ensures.1 (refuses_as e n (excess_refuses e _ (map rule_view (vec_items c.in_ok-rules.rules)) c.in_err-predicates.ensures))
 
 pub returns : goal.returns
-unfolding book_of
 returns c =
-    let text = c.args.text.now in
-    let t = c.in_ok-tokens.ensures in
-    let ps = places (vec_items c.in_ok-tokens.tokens.list) in
-    let ws = words c.deref.result.now in
-    let end = c.in_ok-tokens.tokens.ending in
-    let opened = within book_meaning 8192 read_book text ps end ws c.in_ok-fits_within.ensures t.places t.ending (ap words c.deref.ensures.value ∙ t.words) in
-    let k = c.in-Ok.ensures in
-    let clean = end_clean book_meaning ps k.0 (read_book ws) k.2 end _ c.in_ok-grammar_end.ensures in
-    let same = ap (λ l. with_predicates l (listing [] (in_rules l))) k.1 in
-    let got = ap (λ l. in_rules (map rule_view l)) (sym c.deref-2.ensures.value) ∙ sym c.in_ok-facts.ensures ∙ ap (map mention) (sym c.deref-3.ensures.value) in
-    opened ∙ clean ∙ same ∙ ap (λ l. with_predicates (map rule_view (vec_items c.in-Ok.rules)) (listing [] l)) got ∙ ap (with_predicates (map rule_view (vec_items c.in-Ok.rules))) c.in_ok-predicates.ensures
+    numbered c.args.text.now c.in_ok-tokens.tokens c.deref.result.now c.rules.result c.in_ok-rules.rules c.deref-2.result.now c.in_ok-facts.facts c.deref-3.result.now c.deref.ensures.value c.in_ok-tokens.ensures c.rules.ensures c.in_ok-rules.ensures c.deref-2.ensures.value c.in_ok-facts.ensures c.deref-3.ensures.value
+    ∙ ap (with_predicates (map rule_view (vec_items c.in_ok-rules.rules))) c.in_ok-predicates.ensures

@@ -1,9 +1,8 @@
 use Rattle.std.proofs.Common.{[], ◌∷◌, ◌++◌, map, vec_items, sym, ap, ◌∙◌, arith}
 use Rattle.std.proofs.lemmas.List.{map_push}
-use Rattle.words.specs.Names.{name_bytes}
 use Rattle.parse.specs.Model.{mention}
 use Rattle.book.specs.Predicates.{predicates, coded, these}
-use Rattle.book.proofs.Numbering.{noted_known, noted_new, noted_over, predicates_length, counted}
+use Rattle.book.proofs.Numbering.{noted_known, noted_new, noted_over, predicates_length}
 use Rattle.book.proofs.predicate.Predicates.note.Goals as goal
 
 pub returns-then-knows : goal.returns-then-knows
@@ -19,6 +18,5 @@ returns c =
     let ps = predicates c.args.self.now in
     let f = c.args.fact.now in
     let e = predicates_length c.args.self.now in
-    let n = counted f c.arity-count.result c.arity-count.ensures in
     noted_new ps (mention f) (sym c.if-knows.ensures) (omega (arith, e, c.if-len-ge-MOST_PREDICATES.false))
-    ∙ ap these (sym (ap (map coded) c.in_ok-push.ensures.items ∙ map_push coded (vec_items c.args.self.now.list) _ ∙ ap (λ m. ps ++ (name_bytes f.name, m) ∷ []) n))
+    ∙ ap these (sym (ap (map coded) c.in_ok-push.ensures.items ∙ map_push coded (vec_items c.args.self.now.list) _ ∙ ap (λ q. ps ++ q ∷ []) c.of.ensures))

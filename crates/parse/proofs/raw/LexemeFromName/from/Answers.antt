@@ -1,8 +1,8 @@
 use Rattle.std.proofs.Common.{sym, ◌∙◌}
 use Rattle.std.proofs.lemmas.Bool.{false≢true}
 use Rattle.words.specs.Names.{name_bytes}
-use Rattle.lexed.proofs.Names.{other_name}
-use Rattle.lexed.proofs.raw.name_lexeme.Goals as goal
+use Rattle.parse.proofs.OtherNames.{other_name}
+use Rattle.parse.proofs.raw.LexemeFromName.from.Goals as goal
 
 pub returns : goal.returns
 returns c =

@@ -1,0 +1,11 @@
+use Rattle.std.proofs.Common.{◌≡◌, ◌∙◌, map, sym, ap, subst}
+use Rattle.std.specs.List.{position}
+use Rattle.book.specs.Predicates.{Numbered, coded}
+use Rattle.book.proofs.Numbering.{agreeing, numbered_by}
+use Rattle.book.proofs.predicate.Predicates.number.Goals as goal
+
+pub returns : goal.returns
+returns c =
+    let q = c.args.predicate.now in
+    subst (λ l. Numbered (map coded l) (coded q) c.position.result) c.deref.ensures.value
+    (subst (Numbered (map coded c.deref.result.now) (coded q)) (sym c.position.ensures) (numbered_by (coded q) _ (λ k. agreeing k q) c.deref.result.now))
