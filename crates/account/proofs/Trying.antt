@@ -1,5 +1,7 @@
 -- The occurrences of a predicate, one head and one rule at a time. Assumes nothing.
-use Rattle.std.proofs.Common.{◌≡◌, ℕ, ◌+◌, ◌<◌, ◌≤◌, true, false, List, [], ◌∷◌, ◌++◌, map, length, get_or, drop, sym, refl, ap, ◌∙◌, append_assoc, arith}
+use Rattle.std.specs.List.{push}
+use Rattle.std.proofs.lemmas.Grind.{common_steps, elements}
+use Rattle.std.proofs.Common.{subst, take, ◌≡◌, ℕ, ◌+◌, ◌<◌, ◌≤◌, true, false, List, [], ◌∷◌, ◌++◌, map, length, get_or, drop, sym, refl, ap, ◌∙◌, append_assoc, arith}
 use Rattle.std.proofs.lemmas.List.{drop_more, drop_all}
 use Rattle.std.proofs.lemmas.Bool.{cond-true, cond-false}
 use Rattle.parse.specs.declared.tree.Mention.{Mention as CodeMention}
@@ -34,6 +36,16 @@ module _ (q : Predicate) (i : ℕ) (fs : List CodeMention) (old : List Occurrenc
   tried_more j f now new h s so e =
       e ∙ ap (λ l. l ++ at_head q i j (mention f)) so ∙ append_assoc old (in_heads q i (j + 1) (map mention (drop (j + 1) fs))) (at_head q i j (mention f))
       ∙ ap (λ l. old ++ in_heads q i j (map mention l)) (ap (λ x. x ∷ drop (j + 1) fs) s ∙ sym (drop_more fs j f h))
+
+  -- the last of the heads that are left is of another predicate
+  pub tried_other : (f : CodeMention) (rest left : List CodeMention) (now : List Occurrence) → rest ≡ push left f → rest ≡ take (length rest) fs → predicates_agree (predicate_of (mention f)) q ≡ false → TriedFrom (length rest) now
+    → (left ≡ take (length left) fs) × TriedFrom (length left) now
+  tried_other f rest left now p t other so =
+      let n : length rest ≡ length left + 1 = grind (arith, common_steps) in
+      let h : length left < length fs = grind (arith, common_steps) in
+      let s : f ≡ get_or fs (length left) f = grind (arith, common_steps, elements) in
+      let l : left ≡ take (length left) fs = grind (arith, common_steps) in
+      (l, tried_more (length left) f now now h s (subst (λ k. TriedFrom k now) n so) (head_other q i (length left) (mention f) now other))
 
 -- rules, from the first to the last
 module _ (q : Predicate) (rs : List CodeRule) where

@@ -20,11 +20,7 @@ pub struct Occurrence {
 fn is_of(fact: &Mention, predicate: &Predicate) -> bool
     ensures { result ≡ predicates_agree (predicate_of (mention fact.now)) (coded predicate.now) }
 {
-    *predicate
-        == Predicate {
-            name: fact.name,
-            arity: fact.arguments.len(),
-        }
+    Predicate::of(fact) == *predicate
 }
 
 // The heads of a rule as written.

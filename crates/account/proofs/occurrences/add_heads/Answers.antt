@@ -1,22 +1,11 @@
-use Rattle.std.proofs.Common.{rules, ◌≡◌, ◌++◌, map, OnOk, IfOk, ℕ, ◌+◌, ◌-◌, ◌*◌, ◌<◌, ◌≤◌, length, ◌/◌, ◌%◌, Bool, true, false, nat_eq, nat_lt, List, [], ◌∷◌, slice_index_or, slice_set, bit_and, bit_or, Fits, w8, w32, w64, Bor, MutBor}
-use Rattle.parse.specs.Model.{mention}
-use Rattle.parse.specs.Rules.{rule_view}
-use Rattle.book.specs.Predicates.{coded, predicates_agree, predicate_of}
-use Rattle.account.specs.Occurrences.{in_rule, in_rules, in_heads, heads_of}
+use Rattle.std.proofs.Common.{vec_items, sym, ◌∙◌}
+use Rattle.book.specs.Predicates.{coded}
+use Rattle.account.proofs.Trying.{tried_other}
 use Rattle.account.proofs.occurrences.add_heads.Goals as goal
 
--- src/occurrences.rt:49:5
-pub loop-head-init : goal.loop-head-init
-loop-head-init c = ?
-
--- src/occurrences.rt:49:5
-pub loop-head-preserved-in-Continue-1 : goal.loop-head-preserved-in-Continue-1
-loop-head-preserved-in-Continue-1 c = ?
-
--- src/occurrences.rt:49:5
 pub loop-head-preserved : goal.loop-head-preserved
-loop-head-preserved c = ?
-
--- src/occurrences.rt:41:1
-pub returns : goal.returns
-returns c = ?
+loop-head-preserved c =
+    let s = c.in-Some.ensures.steps in
+    let i = c.loop-head.invariant in
+    let t = tried_other (coded c.args.predicate.now) c.args.rule c.args.heads.now (vec_items c.args.out.now) c.in-Some.fact.now _ _ (vec_items c.loop-head.out) s.1.0 i.front (sym c.is_of.ensures ∙ c.if-is_of.false) i.tried in
+    record { from_0 = s.0 ∙ i.from_0; front = t.0; tried = t.1 }

@@ -1,10 +1,7 @@
-use Rattle.std.proofs.Common.{rules, ◌≡◌, ◌++◌, map, OnOk, IfOk, ℕ, ◌+◌, ◌-◌, ◌*◌, ◌<◌, ◌≤◌, length, ◌/◌, ◌%◌, Bool, true, false, nat_eq, nat_lt, List, [], ◌∷◌, slice_index_or, slice_set, bit_and, bit_or, Fits, w8, w32, w64, Bor, MutBor}
-use Rattle.parse.specs.Model.{mention}
-use Rattle.parse.specs.Rules.{rule_view}
-use Rattle.book.specs.Predicates.{coded, predicates_agree, predicate_of}
-use Rattle.account.specs.Occurrences.{in_rule, in_rules, in_heads, heads_of}
+use Rattle.std.proofs.Common.{◌≡◌, ap, ◌∙◌}
+use Rattle.book.specs.Predicates.{coded, predicates_agree}
+use Rattle.book.proofs.Numbering.{agreeing}
 use Rattle.account.proofs.occurrences.is_of.Goals as goal
 
--- src/occurrences.rt:20:1
 pub returns : goal.returns
-returns c = ?
+returns c = c.eq.ensures ∙ agreeing c.of.result c.args.predicate.now ∙ ap (λ p. predicates_agree p (coded c.args.predicate.now)) c.of.ensures
