@@ -1,5 +1,6 @@
 -- Facts, entries and standings as the code holds them, as plain values. Assumes nothing.
-use Rattle.std.specs.Prelude.{map, Some, None, Option}
+use Rattle.std.specs.Prelude.{map, Option}
+use Rattle.std.specs.Option.{option_map}
 use Rattle.tree.specs.Walks as tree
 use Rattle.parse.specs.Fews.{few_items}
 use Rattle.steps.specs.State as model
@@ -23,8 +24,7 @@ value (code-value.Number n) = model.number n.value
 value (code-value.Cell k) = model.cell k.index
 
 abbrev pub value_if : Option Value → Option model.Value
-value_if None = None
-value_if (Some v) = Some (value v)
+value_if o = option_map value o
 
 abbrev pub fact : Fact Value → model.Fact
 fact f = record { predicate = f.predicate.index; arguments = map value (few_items f.arguments) }

@@ -23,4 +23,4 @@ rule_in b r = record {
 
 -- the program that a book is
 abbrev pub program : Book → model.Program
-program b = map (rule_in b) (vec_items b.rules)
+program b = map (λ n. rule_in b n.rule) (vec_items b.rules)

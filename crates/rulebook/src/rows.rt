@@ -1,8 +1,9 @@
 // The rows of a book's tables.
-use facts::fact::PredicateNumber;
+use facts::fact::Fact;
 use parse::few::Few;
 use parse::number::Weight;
-use parse::tree::{Tell, Term};
+use parse::tree::Term;
+use words::name::Name;
 
 // Part of a table: so many rows, from a place on.
 #[derive(Clone, Copy, Debug, PartialEq, Eq)]
@@ -11,26 +12,27 @@ pub struct Span {
     pub count: u8,
 }
 
-// A fact as a rule or a goal writes it: the number of its predicate, and its arguments.
-#[derive(Clone, Copy, Debug, PartialEq, Eq)]
-pub struct Pattern {
-    pub predicate: PredicateNumber,
-    pub arguments: Few<Term>,
+impl Span {
+    // No row.
+    pub const EMPTY: Span = Span { from: 0, count: 0 };
 }
 
-// An item of a body or a goal.
-#[derive(Clone, Copy, Debug, PartialEq, Eq)]
-pub enum Item {
-    Add(Pattern),
-    Tell(Tell),
-    Fail,
-}
+// A fact as a rule or a goal writes it.
+pub type Pattern = Fact<Term>;
 
 // An alternative of a body: its weight, and where its items lie.
 #[derive(Clone, Copy, Debug, PartialEq, Eq)]
 pub struct Alternative {
     pub weight: Weight,
     pub items: Span,
+}
+
+impl Alternative {
+    // Without items.
+    pub const NONE: Alternative = Alternative {
+        weight: Weight { value: 0 },
+        items: Span::EMPTY,
+    };
 }
 
 // A rule: its heads in the order written, of which the first so many are kept; where its guard and its alternatives lie.
@@ -40,6 +42,23 @@ pub struct Rule {
     pub kept: u8,
     pub guard: Span,
     pub body: Span,
+}
+
+impl Rule {
+    // Without heads and alternatives.
+    pub const NONE: Rule = Rule {
+        heads: Few::Zero,
+        kept: 0,
+        guard: Span::EMPTY,
+        body: Span::EMPTY,
+    };
+}
+
+// A rule with its name.
+#[derive(Clone, Copy, Debug, PartialEq, Eq)]
+pub struct Named {
+    pub label: Name,
+    pub rule: Rule,
 }
 
 // An occurrence of a predicate: a rule, and the place of one of its heads, from 0 on the left.

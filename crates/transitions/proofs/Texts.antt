@@ -1,5 +1,5 @@
 -- Accepted texts keep the limits of the grammar, and so do the program and the goal that they give. Assumes nothing.
-use Rattle.std.proofs.Common.{◌≡◌, ℕ, ◌≤◌, Bool, true, false, cond, leb, List, [], ◌∷◌, map, length, sym, refl, ap, ◌∙◌, subst, arith}
+use Rattle.std.proofs.Common.{◌≡◌, ℕ, ◌≤◌, Bool, true, false, cond, leb, List, [], ◌∷◌, map, length, Ok, Err, sym, refl, ap, ◌∙◌, subst, arith}
 use lib.ListN.{length-map}
 use Rattle.syntax.specs.Syntax.{W, sign, fine, Said, Out, ok, barred, flawed, Reader}
 use Rattle.syntax.specs.Marks.{comma, dot, close_mark}

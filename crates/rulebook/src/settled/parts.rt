@@ -8,19 +8,16 @@ ghost use Rattle.rulebook.specs.Tables.{rule_in, alternative_in, program};
 ghost use Rattle.rulebook.specs.Occurrences.{occurrence_if, Reached};
 
 use super::Book;
-use crate::rows::{Alternative, Item, Occurrence, Rule, Span};
+use crate::rows::{Alternative, Occurrence, Pattern, Rule, Span};
 use facts::fact::PredicateNumber;
-use parse::few::Few;
-use parse::number::Weight;
-use parse::tree::Asking;
+use parse::tree::{Asking, Item};
 
 // The rows of a span, as far as the table has them.
 fn part<T>(table: &[T], span: Span) -> &[T]
     ensures { result.now ≡ slice table.now span }
 {
-    let from = (span.from as usize).min(table.len());
-    let to = (from + span.count as usize).min(table.len());
-    &table[from..to]
+    let rest = table.get(usize::from(span.from)..).unwrap_or(&[]);
+    rest.get(..usize::from(span.count)).unwrap_or(rest)
 }
 
 impl Book {
@@ -28,17 +25,9 @@ impl Book {
     pub fn rule(&self, number: u8) -> Rule
         ensures { rule_in self.now result ≡ rule_at (program self.now) number }
     {
-        let at = number as usize;
-        if at < self.rules.len() {
-            return self.rules[at];
-        }
-        let none = Span { from: 0, count: 0 };
-        Rule {
-            heads: Few::Zero,
-            kept: 0,
-            guard: none,
-            body: none,
-        }
+        self.rules
+            .get(usize::from(number))
+            .map_or(Rule::NONE, |named| named.rule)
     }
 
     // The comparisons of a rule's guard.
@@ -66,19 +55,14 @@ impl Book {
     pub fn alternative(&self, rule: Rule, number: u8) -> Alternative
         ensures { alternative_in self.now result ≡ alternative_at (rule_in self.now rule) number }
     {
-        let body = self.body(rule);
-        let at = number.saturating_sub(1) as usize;
-        if at < body.len() {
-            return body[at];
-        }
-        Alternative {
-            weight: Weight { value: 0 },
-            items: Span { from: 0, count: 0 },
-        }
+        self.body(rule)
+            .get(usize::from(number.saturating_sub(1)))
+            .copied()
+            .unwrap_or(Alternative::NONE)
     }
 
     // The items of an alternative.
-    pub fn items(&self, alternative: Alternative) -> &[Item]
+    pub fn items(&self, alternative: Alternative) -> &[Item<Pattern>]
         ensures { map item result.now ≡ (alternative_in self.now alternative).items }
     {
         part(&self.items, alternative.items)
@@ -89,15 +73,8 @@ impl Book {
         ensures found { occurrence_if result ≡ occurrence_at (occurrences (program self.now) predicate.index) number }
         ensures few { Reached number result }
     {
-        let at = predicate.index as usize;
-        if at >= self.places.len() || number == 0 {
-            return None;
-        }
-        let row = part(&self.occurrences, self.places[at]);
-        let place = number as usize - 1;
-        if place < row.len() && place < 254 {
-            return Some(row[place]);
-        }
-        None
+        let span = self.places[usize::from(predicate.index)];
+        let place = usize::from(number.checked_sub(1)?);
+        part(&self.occurrences, span).get(place).copied()
     }
 }

@@ -1,5 +1,6 @@
+use Rattle.std.proofs.Common.{rules}
 use Rattle.std.proofs.lemmas.List.{map-set}
 use Rattle.facts.proofs.binding.Bindings.set.Goals as goal
 
 pub returns : goal.returns
-returns c = simp (c.from.ensures, map-set)
+returns c = search (rules, map-set)
