@@ -2,5 +2,9 @@
 #![tactic(auto)]
 
 pub mod lines;
+mod named;
 pub mod occurrences;
 pub mod parting;
+pub mod reading;
+mod refusal;
+mod showing;
