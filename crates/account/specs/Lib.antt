@@ -1,3 +1,4 @@
 pub mod Lines
 pub mod Occurrences
 pub mod Parting
+pub mod Refusals

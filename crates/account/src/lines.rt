@@ -1,7 +1,7 @@
 // The line of a text in which a place lies.
-ghost use Rattle.std.specs.Prelude.{◌≡◌, ◌+◌, ◌≤◌, length, drop};
-ghost use Rattle.std.specs.List.{prefix_len};
-ghost use Rattle.account.specs.Lines.{inline, start_of_line, spot_at, seen_spot};
+ghost use Rattle.std.specs.Prelude.{◌≡◌, ◌≤◌, length};
+ghost use Rattle.std.specs.List.{prefix_len, suffix_len};
+ghost use Rattle.account.specs.Lines.{inline, spot_at, seen_spot};
 
 // A line without its line feed, and how many of its bytes stand before the place.
 #[derive(Clone, Copy, Debug, PartialEq, Eq)]
@@ -10,39 +10,29 @@ pub struct Spot<'a> {
     pub column: usize,
 }
 
-fn line_start(text: &[u8], place: usize) -> usize
-    requires { place ≤ length text.now }
-    ensures before { result ≤ place }
-    ensures value { result ≡ start_of_line text.now place }
+// How many bytes stand at a text's end that are on its last line.
+fn last_line_len(text: &[u8]) -> usize
+    ensures within { result ≤ length text.now }
+    ensures value { result ≡ suffix_len inline text.now }
 {
-    let mut start = place;
-    while start > 0 && text[start - 1] != b'\n' {
-        start -= 1;
-    }
-    start
+    text.iter().rev().take_while(|b| **b != b'\n').count()
 }
 
-fn line_stop(text: &[u8], place: usize) -> usize
-    requires { place ≤ length text.now }
-    ensures behind { (place ≤ result) × (result ≤ length text.now) }
-    ensures value { result ≡ place + prefix_len inline (drop place text.now) }
+// How many bytes stand on a text's first line.
+fn first_line_len(text: &[u8]) -> usize
+    ensures within { result ≤ length text.now }
+    ensures value { result ≡ prefix_len inline text.now }
 {
-    let mut stop = place;
-    while stop < text.len() && text[stop] != b'\n' {
-        stop += 1;
-    }
-    stop
+    text.iter().take_while(|b| **b != b'\n').count()
 }
 
 // The line in which a place lies; the text's end lies in its last line. None past the end.
 pub fn line_of(text: &[u8], place: usize) -> Option<Spot<'_>>
     ensures { seen_spot result ≡ spot_at text.now place }
 {
-    if place > text.len() {
-        return None;
-    }
-    let start = line_start(text, place);
-    let stop = line_stop(text, place);
+    let (before, behind) = text.split_at_checked(place)?;
+    let start = place - last_line_len(before);
+    let stop = place + first_line_len(behind);
     Some(Spot {
         line: &text[start..stop],
         column: place - start,

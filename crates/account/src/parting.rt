@@ -8,12 +8,9 @@ fn goal_start(text: &[u8]) -> usize
     ensures before { (k : ℕ) → k < result → Asks text.now k → ⊥ }
     ensures found { result < length text.now → Asks text.now result }
 {
-    for i in 1..text.len() {
-        if text[i - 1] == b'?' && text[i] == b'-' {
-            return i - 1;
-        }
-    }
-    text.len()
+    text.windows(2)
+        .position(|two| two[0] == b'?' && two[1] == b'-')
+        .unwrap_or(text.len())
 }
 
 // The book is what stands before the first `?-`, the goal what stands from there on.

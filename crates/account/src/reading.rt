@@ -1,66 +1,74 @@
 // Inputs are read, and an account is given of them.
-use crate::page::Page;
 use crate::parting::part;
-use crate::showing::{Source, show_book, show_goal, show_line, show_refusal};
+use crate::refusal::{Refusal, Source};
+use crate::showing::{show_book, show_goal, show_line};
 use book::faults::BookFault;
-use book::library::Book;
+use book::library::{Book, Goal};
 use book::reading::{read_book, read_goal};
+use pages::page::Page;
 use std::alloc::{AllocError, Global};
 
-// A refusal with the line in which its place lies; want of memory has none.
-fn explain(
-    page: &mut Page,
-    source: Source,
-    text: &[u8],
-    fault: BookFault,
-) -> Result<(), AllocError> {
-    show_refusal(page, source, fault)?;
-    match fault {
-        BookFault::Memory => Ok(()),
-        _ => show_line(page, text, fault.place()),
-    }
+fn book_in(heap: Global, text: &[u8]) -> Result<Book, Refusal> {
+    read_book(heap, text).map_err(|fault| Refusal {
+        source: Source::Book,
+        fault,
+    })
 }
 
-// What is to say of a goal, behind the account of its book; a refusal stands alone.
-fn with_goal(heap: Global, book: &Book, text: &[u8]) -> Result<Page, AllocError> {
-    let mut page = Page::new(heap);
-    match read_goal(heap, book, text) {
-        Ok(goal) => {
-            show_book(&mut page, book)?;
-            show_goal(&mut page, &goal)?;
-        }
-        Err(fault) => explain(&mut page, Source::Goal, text, fault)?,
+fn goal_in(heap: Global, book: &Book, text: &[u8]) -> Result<Goal, Refusal> {
+    read_goal(heap, book, text).map_err(|fault| Refusal {
+        source: Source::Goal,
+        fault,
+    })
+}
+
+// A book, and its goal if there is one.
+fn read(heap: Global, first: &[u8], second: &[u8]) -> Result<(Book, Option<Goal>), Refusal> {
+    let book = book_in(heap, first)?;
+    if second.is_empty() {
+        return Ok((book, None));
     }
-    Ok(page)
+    let goal = goal_in(heap, &book, second)?;
+    Ok((book, Some(goal)))
+}
+
+// A refusal with the line in which its place lies; want of memory has none.
+fn explain(page: &mut Page, refusal: Refusal, text: &[u8]) -> Result<(), AllocError> {
+    writeln!(page, "{refusal}")?;
+    match refusal.fault {
+        BookFault::Memory => Ok(()),
+        fault => show_line(page, text, fault.place()),
+    }
 }
 
 // The account of a book and of the goal, if there is one; or of the first fault.
 pub fn account(heap: Global, input: &[u8]) -> Result<Vec<u8>, AllocError> {
-    let (first, second) = part(input);
     let mut page = Page::new(heap);
-    match read_book(heap, first) {
-        Ok(book) => {
-            if !second.is_empty() {
-                return Ok(with_goal(heap, &book, second)?.bytes);
-            }
+    let (first, second) = part(input);
+    match read(heap, first, second) {
+        Ok((book, goal)) => {
             show_book(&mut page, &book)?;
+            if let Some(goal) = goal {
+                show_goal(&mut page, &goal)?;
+            }
         }
-        Err(fault) => explain(&mut page, Source::Book, first, fault)?,
+        Err(refusal) => {
+            let text = match refusal.source {
+                Source::Book => first,
+                Source::Goal => second,
+            };
+            explain(&mut page, refusal, text)?;
+        }
     }
     Ok(page.bytes)
 }
 
-// The fault of a book and its goal, if there is one; a goal that is not there is empty.
-fn verdict(heap: Global, input: &[u8]) -> Result<(), (Source, BookFault)> {
+// Whether a book and its goal are accepted; a goal that is not there is empty.
+fn verdict(heap: Global, input: &[u8]) -> Result<(), Refusal> {
     let (first, second) = part(input);
-    let book = match read_book(heap, first) {
-        Ok(book) => book,
-        Err(fault) => return Err((Source::Book, fault)),
-    };
-    match read_goal(heap, &book, second) {
-        Ok(_goal) => Ok(()),
-        Err(fault) => Err((Source::Goal, fault)),
-    }
+    let book = book_in(heap, first)?;
+    goal_in(heap, &book, second)?;
+    Ok(())
 }
 
 // One line: whether book and goal are accepted, or the refusal.
@@ -68,7 +76,7 @@ pub fn verdict_line(heap: Global, input: &[u8]) -> Result<Vec<u8>, AllocError> {
     let mut page = Page::new(heap);
     match verdict(heap, input) {
         Ok(()) => page.text("accepted\n")?,
-        Err((source, fault)) => show_refusal(&mut page, source, fault)?,
+        Err(refusal) => writeln!(page, "{refusal}")?,
     }
     Ok(page.bytes)
 }

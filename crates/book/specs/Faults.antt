@@ -1,5 +1,5 @@
 -- The numbers, places and layers of faults. Assumes nothing.
-use Rattle.std.specs.Prelude.{ℕ}
+use Rattle.std.specs.Prelude.{ℕ, List, codes}
 use Rattle.words.specs.Faults.{letter_number, letter_place}
 use Rattle.book.specs.declared.faults.GrammarFault.TheVariants.{Letter, Barred, TooMany}
 use Rattle.book.specs.declared.faults.BookFault.{BookFault}
@@ -36,3 +36,9 @@ book_layer (Reused p) = layer.Meaning
 book_layer (InGoal p) = layer.Meaning
 book_layer (Unknown p) = layer.Meaning
 book_layer Memory = layer.Meaning
+
+-- a layer as it is told
+abbrev pub layer_text : Layer → List ℕ
+layer_text layer.Letters = codes "letters"
+layer_text layer.Grammar = codes "grammar"
+layer_text layer.Meaning = codes "meaning"

@@ -1,10 +1,11 @@
 // The faults of a book or goal, by layer: letters, grammar, meaning.
-ghost use Rattle.std.specs.Prelude.{◌≡◌};
-ghost use Rattle.book.specs.Faults.{book_number, book_place, book_layer};
+ghost use Rattle.std.specs.Prelude.{◌≡◌, Some};
+ghost use Rattle.book.specs.Faults.{book_number, book_place, book_layer, layer_text};
 ghost use Rattle.book.specs.declared.faults.GrammarFault.TheVariants.{Letter};
 ghost use Rattle.book.specs.declared.faults.BookFault.TheVariants.{Grammar, Memory};
 
 use std::alloc::{AllocError, AllocFailed};
+use std::fmt;
 use words::faults::LetterFault;
 
 // A fault of the letters; a word that the grammar bars, or the end; a limit passed.
@@ -32,6 +33,18 @@ pub enum Layer {
     Letters,
     Grammar,
     Meaning,
+}
+
+impl fmt::Display for Layer {
+    ghost output = { λ layer. Some (layer_text layer) };
+
+    fn fmt<W: fmt::Write>(&self, f: &mut fmt::Formatter<W>) -> fmt::Result {
+        f.write_str(match self {
+            Layer::Letters => "letters",
+            Layer::Grammar => "grammar",
+            Layer::Meaning => "meaning",
+        })
+    }
 }
 
 impl From<LetterFault> for GrammarFault {

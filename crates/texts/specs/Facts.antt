@@ -1,17 +1,13 @@
 -- Facts, paths and cells as bytes. Assumes nothing.
 use Rattle.std.specs.Prelude.{ℕ, List, [], ◌∷◌, ◌++◌, ℤ, codes, decimal}
 use Rattle.std.specs.Fmt.{signed_decimal}
-use Rattle.steps.specs.State.{Value, number, cell}
-
--- a value: a number, or `#` and the cell's number
-abbrev pub value_text : Value → List ℕ
-value_text (number n) = signed_decimal n
-value_text (cell k) = codes "#" ++ decimal k
+use Rattle.std.specs.List.{flat_map}
+use Rattle.steps.specs.State.{Value, cell}
+use Rattle.facts.specs.Texts.{value_text}
 
 -- more arguments, up to the closing bracket
 abbrev pub more_text : List Value → List ℕ
-more_text [] = codes ")"
-more_text (v ∷ vs) = codes "," ++ (value_text v ++ more_text vs)
+more_text vs = flat_map (λ v. codes "," ++ value_text v) vs ++ codes ")"
 
 -- the arguments in brackets; nothing where there are none
 abbrev pub arguments_text : List Value → List ℕ
@@ -24,8 +20,7 @@ fact_text name vs = name ++ arguments_text vs
 
 -- more numbers of a path
 abbrev pub dotted : List ℕ → List ℕ
-dotted [] = []
-dotted (i ∷ is) = codes "." ++ (decimal i ++ dotted is)
+dotted = flat_map (λ i. codes "." ++ decimal i)
 
 -- a path: `-` where it is empty, else its numbers with dots between them
 abbrev pub path_text : List ℕ → List ℕ

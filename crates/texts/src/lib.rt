@@ -1,5 +1,6 @@
 // Facts, paths and cells as text.
 #![tactic(auto)]
 
-pub mod page;
+#[cfg(test)]
+mod tests;
 pub mod wording;
