@@ -8,6 +8,7 @@ ghost use Rattle.state.specs.Stores.{facts_of, Place, returned, followed, follow
 use super::Store;
 use bounded::Bounded;
 use facts::fact::{Fact, Stored};
+use facts::value::Value;
 use std::alloc::{AllocError, Global};
 
 impl Store {
@@ -44,7 +45,7 @@ impl Store {
     }
 
     // A fact enters under the next identifier; none does where 128 are, or where no identifier is left to follow.
-    pub fn add(&mut self, fact: Fact) -> Option<Stored>
+    pub fn add(&mut self, fact: Fact<Value>) -> Option<Stored>
         ensures { Added (the-fact fact) self.old result self.new }
     {
         if self.next == 65535 {
