@@ -1,10 +1,10 @@
+pub mod Ahead
 pub mod Arrows
+pub mod Books
 pub mod Chains
 pub mod Faults
-pub mod Growing
 pub mod Loops
 pub mod Names
 pub mod Places
-pub mod Rows
-pub mod Variables
+pub mod Scoped
 pub mod OtherNames
