@@ -1,4 +1,4 @@
-ghost use Rattle.std.specs.Prelude.{◌≡◌, ◌≤◌, pos};
+ghost use Rattle.std.specs.Prelude.{◌≡◌, pos, ◌≤ℤ◌, unsigned_abs};
 ghost use Rattle.cells.specs.Sets.{window, some_bits, is_set, set_member, set_ends, set_narrowed, set_asked, set_least, set_greatest, set_counted};
 ghost use Rattle.cells.specs.SetsLaws as laws;
 
@@ -9,11 +9,19 @@ use crate::spans::Span;
 // The members are among 0 to 63. Bit v of the content is set exactly if v is a member.
 pub struct Sets;
 
-// The number whose bits from `low` to `high` are set.
-fn mask(low: u32, high: u32) -> u64
-    requires { (low ≤ high) × (high ≤ 63) }
-    ensures { result ≡ window low high }
+// All numbers that may be members.
+const ALL: Span = Span {
+    low: Sets::LOWEST,
+    high: Sets::HIGHEST,
+};
+
+// The number whose bits from the low to the high end are set.
+fn mask(s: Span) -> u64
+    requires { (pos 0 ≤ℤ s.low) × ((s.low ≤ℤ s.high) × (s.high ≤ℤ pos 63)) }
+    ensures { result ≡ window (unsigned_abs s.low) (unsigned_abs s.high) }
 {
+    let low = s.low.unsigned_abs();
+    let high = s.high.unsigned_abs();
     (u64::MAX >> (63 - high)) - ((1 << low) - 1)
 }
 
@@ -90,7 +98,7 @@ impl Kind for Sets {
     ghost counts = { laws.counts };
 
     fn whole() -> u64 {
-        mask(Self::LOWEST as u32, Self::HIGHEST as u32)
+        mask(ALL)
     }
 
     fn is_content(c: u64) -> bool {
@@ -98,12 +106,7 @@ impl Kind for Sets {
     }
 
     fn narrow(c: u64, by: Telling, n: i32) -> Option<u64> {
-        let all = Span {
-            low: Self::LOWEST,
-            high: Self::HIGHEST,
-        };
-        let left = all.clip(by, n)?;
-        nonzero(c & mask(left.low as u32, left.high as u32))
+        nonzero(c & mask(ALL.clip(by, n)?))
     }
 
     fn ask(c: u64, relation: Relation, n: i32) -> bool {
