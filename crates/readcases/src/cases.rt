@@ -1,4 +1,6 @@
 // Cases in a file: a line `@ NAME L1 L2`, then two parts of that many bytes, each with a line feed behind it.
+ghost use Rattle.std.specs.Prelude.{◌+◌, ◌<◌, ◌≤◌, length, IfSome};
+ghost use Rattle.std.specs.Iterator.{at_most};
 
 #[derive(Clone, Copy, Debug, PartialEq, Eq)]
 pub struct Case<'a> {
@@ -7,39 +9,55 @@ pub struct Case<'a> {
     pub expected: &'a [u8],
 }
 
-// What stands before the first such byte, and what behind it.
-fn cut(text: &[u8], at: u8) -> (&[u8], &[u8]) {
-    for (i, byte) in text.iter().enumerate() {
-        if *byte == at {
-            return (&text[0..i], &text[i + 1..]);
-        }
+// The cases of a text, one after another; what is no case ends them.
+#[derive(Drop)]
+pub struct Cases<'a>(pub &'a [u8]);
+
+impl<'a> Iterator for Cases<'a> {
+    type Item = Case<'a>;
+
+    ghost remaining = { λ s. at_most (length s.0.now) };
+
+    fn next(&mut self) -> Option<Case<'a>> {
+        let (case, rest) = first_case(self.0)?;
+        self.0 = rest;
+        Some(case)
     }
-    (text, &[])
+}
+
+// What stands before the first such byte, and what behind it.
+fn cut(text: &[u8], at: u8) -> (&[u8], &[u8])
+    ensures { length result.0.now + length result.1.now ≤ length text.now }
+{
+    match text.iter().position(|byte| *byte == at) {
+        Some(i) => (&text[..i], &text[i + 1..]),
+        None => (text, &[]),
+    }
 }
 
 // The number that digits say; other bytes are passed over.
 fn number(digits: &[u8]) -> usize {
-    let mut n = 0usize;
-    for byte in digits {
-        if let b'0'..=b'9' = *byte {
-            n = n
-                .saturating_mul(10)
-                .saturating_add(usize::from(*byte - b'0'));
-        }
-    }
-    n
+    digits
+        .iter()
+        .filter_map(|byte| char::from(*byte).to_digit(10))
+        .fold(0usize, |n, digit| {
+            n.saturating_mul(10).saturating_add(digit as usize)
+        })
 }
 
 // The first bytes of a text, and what stands behind the byte after them.
-fn piece(text: &[u8], count: usize) -> Option<(&[u8], &[u8])> {
-    if count >= text.len() {
-        return None;
-    }
-    Some((&text[0..count], &text[count + 1..]))
+fn piece(text: &[u8], count: usize) -> Option<(&[u8], &[u8])>
+    ensures { IfSome result (λ p. length p.1.now < length text.now) }
+{
+    let (first, behind) = text.split_at_checked(count)?;
+    let (_feed, rest) = behind.split_first()?;
+    Some((first, rest))
 }
 
 // The first case of a text, and what stands behind it.
-pub fn first_case(text: &[u8]) -> Option<(Case<'_>, &[u8])> {
+fn first_case(text: &[u8]) -> Option<(Case<'_>, &[u8])>
+    ensures { IfSome result (λ p. length p.1.now < length text.now) }
+{
     let (title, parts) = cut(text, b'\n');
     let (_mark, title) = cut(title, b' ');
     let (name, lengths) = cut(title, b' ');

@@ -1,6 +1,7 @@
 // All cases are run, and each difference is told.
-use crate::cases::{Case, first_case};
+use crate::cases::{Case, Cases};
 use account::reading::verdict_line;
+use pages::page::Page;
 use std::alloc::{AllocError, Global};
 
 // A line without its end.
@@ -12,38 +13,32 @@ fn told(line: &[u8]) -> &[u8] {
 }
 
 // Whether a case comes out as expected; if not, the report says so.
-fn holds(heap: Global, report: &mut Vec<u8>, case: Case) -> Result<bool, AllocError> {
-    let line = verdict_line(heap, case.input)?;
+fn holds(report: &mut Page, case: Case) -> Result<bool, AllocError> {
+    let line = verdict_line(report.heap, case.input)?;
     let got = told(&line);
     if got == case.expected {
         return Ok(true);
     }
-    report.extend_from_slice(case.name)?;
-    report.extend_from_slice(b" differs: got ")?;
-    report.extend_from_slice(got)?;
-    report.extend_from_slice(b", expected ")?;
-    report.extend_from_slice(case.expected)?;
-    report.extend_from_slice(b"\n")?;
+    report.raw(case.name)?;
+    report.text(" differs: got ")?;
+    report.raw(got)?;
+    report.text(", expected ")?;
+    report.raw(case.expected)?;
+    report.text("\n")?;
     Ok(false)
 }
 
-// The report on all cases of a text; each case takes a byte at least.
+// The report on all cases of a text.
 pub fn run(heap: Global, text: &[u8]) -> Result<Vec<u8>, AllocError> {
-    let mut report = Vec::new(heap);
-    let mut rest = text;
+    let mut report = Page::new(heap);
     let mut cases = 0usize;
     let mut differ = 0usize;
-    for _turn in 0..text.len() {
-        let Some((case, behind)) = first_case(rest) else {
-            break;
-        };
+    for case in Cases(text) {
         cases = cases.saturating_add(1);
-        if !holds(heap, &mut report, case)? {
+        if !holds(&mut report, case)? {
             differ = differ.saturating_add(1);
         }
-        rest = behind;
     }
-    let total = format!(in heap; "reading: {cases} cases, {differ} differ\n")?;
-    report.extend_from_slice(total.as_bytes())?;
-    Ok(report)
+    writeln!(report, "reading: {cases} cases, {differ} differ")?;
+    Ok(report.bytes)
 }

@@ -1,4 +1,4 @@
-use Rattle.std.proofs.Common.{◌≡◌, ap, ◌∙◌}
+use Rattle.std.proofs.Common.{ap, ◌∙◌}
 use Rattle.book.specs.Predicates.{coded, predicates_agree}
 use Rattle.book.proofs.Numbering.{agreeing}
 use Rattle.account.proofs.occurrences.is_of.Goals as goal
