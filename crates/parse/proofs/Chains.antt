@@ -2,7 +2,7 @@
 use Rattle.std.proofs.Common.{◌≡◌, ℕ, true, false, List, [], ◌∷◌}
 use Rattle.syntax.specs.Syntax.{W, kind, sign, ahead, ok, barred, Reader, both, via, fork, nothing, only_end}
 use Rattle.syntax.specs.Parts.{Some, mark}
-use Rattle.syntax.specs.Tree.{Left, Right, Relation, Telling, Comparison, compared, Fact, bare, applied, Argument, Item, added, told, Content, nil, items, Alternative, plainly, weighted, Guard, none, guarded, Arrow, propagating, simplifying, simpagating, Label, Rule, rule}
+use Rattle.syntax.specs.Tree.{Left, Right, Relation, Telling, Comparison, compared, Fact, bare, applied, Argument, Item, added, told, Content, items, Alternative, plainly, weighted, Guard, guarded, Arrow, propagating, simplifying, simpagating, Label, Rule, rule}
 use Rattle.syntax.specs.Readers.{name_kind, weight_kind, comparison_of, fact_of, item_of, content_of, alternative_of, guard_of, arrow_of, rule_of, goal_of, on_mark, behind_mark}
 use Rattle.syntax.specs.Marks.{open_mark, close_mark, fail_word, true_word, colon, bar, backslash, at_mark, dot, ask}
 use Rattle.syntax.specs.Grammar.{Scope}
@@ -16,9 +16,6 @@ module _ {R : Type 0} (a : Reader Left) (b : Reader R) (c : Reader Right) where
   row = via comparison_of (both a (λ _. both b (λ _. c)))
 
   module _ (l : List W) {m : List W} {x : Left} (first : a l ≡ ok x m) where
-    pub comparison_second : {ws : List W} {f : Flaw} → Faulted ws f (b m) → Faulted ws f (row l)
-    comparison_second e = led e (λ r g. simp (first, g)) (λ n w r g. simp (first, g))
-
     module _ {n : List W} {y : R} (second : b m ≡ ok y n) where
       pub comparison_third : {ws : List W} {f : Flaw} → Faulted ws f (c n) → Faulted ws f (row l)
       comparison_third e = led e (λ r g. simp (first, second, g)) (λ n w r g. simp (first, second, g))
@@ -55,9 +52,6 @@ module _ (a : Reader (Fact Argument)) (b : Reader (Comparison Telling)) where
   item_fact l h e = simp (h, e)
 
   module _ (l : List W) (h : ahead (name_kind ∷ []) l ≡ false) (k : ahead (kind (sign fail_word) ∷ []) l ≡ false) where
-    pub item_led : {ws : List W} {f : Flaw} → Faulted ws f (b l) → Faulted ws f (item l)
-    item_led e = led e (λ r g. simp (h, k, g)) (λ n w r g. simp (h, k, g))
-
     pub item_told : {r : List W} {x : Comparison Telling} → b l ≡ ok x r → item l ≡ ok (told x) r
     item_told e = simp (h, k, e)
 
@@ -65,9 +59,6 @@ module _ (a : Reader (Fact Argument)) (b : Reader (Comparison Telling)) where
 module _ (a : Reader (Some Item)) where
   abbrev content : Reader Content
   content = via content_of (fork (kind (sign true_word) ∷ []) (mark true_word) a)
-
-  pub content_true : (l : List W) {r : List W} → ahead (kind (sign true_word) ∷ []) l ≡ true → mark true_word l ≡ ok tt r → content l ≡ ok nil r
-  content_true l h e = simp (h, e)
 
   module _ (l : List W) (h : ahead (kind (sign true_word) ∷ []) l ≡ false) where
     pub content_led : {ws : List W} {f : Flaw} → Faulted ws f (a l) → Faulted ws f (content l)
@@ -82,24 +73,12 @@ module _ (a : Reader ℕ) (b : Reader Content) where
   alternative = via alternative_of (fork (weight_kind ∷ []) (both a (λ _. behind_mark colon b)) b)
 
   module _ (l : List W) (h : ahead (weight_kind ∷ []) l ≡ false) where
-    pub plain_led : {ws : List W} {f : Flaw} → Faulted ws f (b l) → Faulted ws f (alternative l)
-    plain_led e = led e (λ r g. simp (h, g)) (λ n w r g. simp (h, g))
-
     pub plain_all : {r : List W} {x : Content} → b l ≡ ok x r → alternative l ≡ ok (plainly x) r
     plain_all e = simp (h, e)
 
   module _ (l : List W) (h : ahead (weight_kind ∷ []) l ≡ true) where
-    pub weight_led : {ws : List W} {f : Flaw} → Faulted ws f (a l) → Faulted ws f (alternative l)
-    weight_led e = led e (λ r g. simp (h, g)) (λ n w r g. simp (h, g))
-
     module _ {m : List W} {n : ℕ} (first : a l ≡ ok n m) where
-      pub colon_led : {ws : List W} {f : Flaw} → Faulted ws f (mark colon m) → Faulted ws f (alternative l)
-      colon_led e = led e (λ r g. simp (h, first, g)) (λ n w r g. simp (h, first, g))
-
       module _ {k : List W} (second : mark colon m ≡ ok tt k) where
-        pub weighted_led : {ws : List W} {f : Flaw} → Faulted ws f (b k) → Faulted ws f (alternative l)
-        weighted_led e = led e (λ r g. simp (h, first, second, g)) (λ n w r g. simp (h, first, second, g))
-
         pub weighted_all : {r : List W} {x : Content} → b k ≡ ok x r → alternative l ≡ ok (weighted n x) r
         weighted_all e = simp (h, first, second, e)
 
@@ -107,13 +86,6 @@ module _ (a : Reader ℕ) (b : Reader Content) where
 module _ (plain guarding : ℕ) (a : Reader (Some (Comparison Relation))) where
   abbrev guard : Reader Guard
   guard = via guard_of (on_mark guarding (both a (λ _. mark bar)) (mark plain))
-
-  module _ (l : List W) (h : ahead (kind (sign guarding) ∷ []) l ≡ false) where
-    pub arrow_led : {ws : List W} {f : Flaw} → Faulted ws f (mark plain l) → Faulted ws f (guard l)
-    arrow_led e = led e (λ r g. simp (h, g)) (λ n w r g. simp (h, g))
-
-    pub arrow_all : {r : List W} → mark plain l ≡ ok tt r → guard l ≡ ok none r
-    arrow_all e = simp (h, e)
 
   module _ (l : List W) {m : List W} (h : ahead (kind (sign guarding) ∷ []) l ≡ true) (first : mark guarding l ≡ ok tt m) where
     pub askings_led : {ws : List W} {f : Flaw} → Faulted ws f (a m) → Faulted ws f (guard l)
@@ -144,16 +116,10 @@ module _ (ks : List ℕ) (a : Reader (Some (Fact Left))) (g : Some (Fact Left) �
 
   module _ (l : List W) (h : ahead (kind (sign backslash) ∷ []) l ≡ false) where
     module _ (k : ahead ks l ≡ true) where
-      pub propagating_led : {ws : List W} {f : Flaw} → Faulted ws f (p l) → Faulted ws f (arrow l)
-      propagating_led e = led e (λ r g. simp (h, k, g)) (λ n w r g. simp (h, k, g))
-
       pub propagating_all : {r : List W} {x : Guard} → p l ≡ ok x r → arrow l ≡ ok (propagating x) r
       propagating_all e = simp (h, k, e)
 
     module _ (k : ahead ks l ≡ false) where
-      pub simplifying_led : {ws : List W} {f : Flaw} → Faulted ws f (q l) → Faulted ws f (arrow l)
-      simplifying_led e = led e (λ r g. simp (h, k, g)) (λ n w r g. simp (h, k, g))
-
       pub simplifying_all : {r : List W} {x : Guard} → q l ≡ ok x r → arrow l ≡ ok (simplifying x) r
       simplifying_all e = simp (h, k, e)
 
@@ -163,9 +129,6 @@ module _ (a : Reader Label) (h : Reader (Some (Fact Left))) (w : Some (Fact Left
   rule_row = via rule_of (both a (λ _. behind_mark at_mark (both h (λ hs. both (w hs) (λ x. both (b hs x) (λ _. mark dot))))))
 
   module _ (l : List W) {m : List W} {x : Label} (first : a l ≡ ok x m) where
-    pub at_led : {ws : List W} {f : Flaw} → Faulted ws f (mark at_mark m) → Faulted ws f (rule_row l)
-    at_led e = led e (λ r g. simp (first, g)) (λ n w r g. simp (first, g))
-
     module _ {n : List W} (second : mark at_mark m ≡ ok tt n) where
       pub heads_led : {ws : List W} {f : Flaw} → Faulted ws f (h n) → Faulted ws f (rule_row l)
       heads_led e = led e (λ r g. simp (first, second, g)) (λ n w r g. simp (first, second, g))

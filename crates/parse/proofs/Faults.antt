@@ -1,13 +1,14 @@
--- A part's fault is the whole's, and marks tell which part comes. Assumes nothing.
-use Rattle.std.proofs.Common.{◌≡◌, ℕ, ◌+◌, true, false, List, [], ◌∷◌, drop, IsErrAnd, Result, sym, ap, ◌∙◌, subst, inl, inr}
+-- A part's fault is the whole's. Assumes nothing.
+use Rattle.std.proofs.Common.{◌≡◌, ℕ, List, [], ◌∷◌, drop, IsErrAnd, Bor, Result, Ok, Err, sym, subst}
 use Rattle.std.proofs.lemmas.Result.{err_from_is_err_and}
-use Rattle.std.proofs.lemmas.Bool.{cond-true, cond-false}
-use Rattle.syntax.specs.Syntax.{W, kind, sign, ahead, fork, Out, barred, flawed, after, mapped, Reader}
-use Rattle.syntax.specs.Readers.{on_mark}
+use Rattle.syntax.specs.Syntax.{W, Out, ok, barred, flawed}
 use Rattle.parse.specs.declared.flaw.Flaw.{Flaw}
 use Rattle.parse.specs.declared.flaw.Flaw.TheVariants.{Barred, TooMany, Unbound, Reused, InGoal, Memory}
-use Rattle.parse.specs.Flaws.{flawed_at, FoundFlaw, Faulted, Tells}
-use Rattle.parse.proofs.Places.{mark_taken}
+use Rattle.parse.specs.Flaws.{flawed_at, FoundFlaw, Faulted}
+use Rattle.parse.specs.declared.cursor.Cursor.{Cursor}
+use Rattle.parse.specs.declared.token.Token.{Token}
+use Rattle.parse.specs.Tokens.{words}
+use Rattle.parse.specs.Cursors.{whole, rest, Tells}
 
 -- a reading that is barred and faulted wherever a part of it is
 found_led : {X Y : Type 0} (ws : List W) (f : Flaw) (o : Out X) (u : Out Y) → ((r : List W) → o ≡ barred r → u ≡ barred r) → ((n : ℕ) (l : List W) → o ≡ flawed_at n l → u ≡ flawed_at n l) → FoundFlaw ws f o → FoundFlaw ws f u
@@ -25,16 +26,18 @@ flaw_led o u b f n (w ∷ r) e = f n w r e
 pub led : {X Y : Type 0} {ws : List W} {f : Flaw} {o : Out X} {u : Out Y} → Faulted ws f o → ((r : List W) → o ≡ barred r → u ≡ barred r) → ((n : ℕ) (w : W) (r : List W) → o ≡ flawed n w r → u ≡ flawed n w r) → Faulted ws f u
 led {ws = ws} {f = f} {o = o} {u = u} e b g = record { found = found_led ws f o u b (flaw_led o u b g) e.found }
 
+pub faulted_same : {X : Type 0} {ws : List W} {f : Flaw} {o u : Out X} → o ≡ u → Faulted ws f u → Faulted ws f o
+faulted_same {ws = ws} {f = f} e h = subst (λ v. Faulted ws f v) (sym e) h
+
+-- the cursor still goes over the words that it began with
+pub faulted_here : {X : Type 0} (d : Cursor) (ts : Bor (List Token)) {f : Flaw} {o : Out X} → d.tokens ≡ ts → Faulted (whole d) f o → Faulted (words ts.now) f o
+faulted_here d ts {f = f} {o = o} e h = subst (λ b. Faulted (words b.now) f o) e h
+
+-- what a reader tells of one part tells of another
+pub retold : {T X Y : Type 0} {Is : T → X → Type 0} {Was : T → Y → Type 0} (d : Cursor) {o : Out X} {u : Out Y} (r : Result T Flaw) → ((x : T) (y : X) → Is x y → o ≡ ok y (rest d) → Tells Was (Ok x) d u) → ((f : Flaw) → Faulted (whole d) f o → Faulted (whole d) f u) → Tells Is r d o → Tells Was r d u
+retold d (Ok x) f g (y, i, e) = f x y i e
+retold d (Err e) f g h = g e h
+
 -- the exit of a `?`
-pub exit : {T X : Type 0} (Is : T → X → Type 0) {ws : List W} {o : Out X} {f : Flaw} (r : Result (T × ℕ) Flaw) → IsErrAnd r (λ y. y ≡ f) → Faulted ws f o → Tells Is ws r o
-exit Is {ws = ws} {o = o} r e h = let p = err_from_is_err_and r e in subst (λ x. Tells Is ws x o) (sym p.1) (subst (λ y. Faulted ws y o) (sym p.2) h)
-
--- where the mark stands, the first part is read behind it; else the second is
-pub on_yes : {X Y : Type 0} (c : ℕ) (a : Reader X) (b : Reader Y) (at : ℕ) (ws : List W) → ahead (kind (sign c) ∷ []) (drop at ws) ≡ true → on_mark c a b (drop at ws) ≡ mapped inl (mapped (λ x. (tt, x)) (a (drop (at + 1) ws)))
-on_yes c a b at ws h = cond-true (ahead (kind (sign c) ∷ []) (drop at ws)) _ _ h ∙ ap (λ o. mapped inl (after o (λ u r. mapped (λ x. (u, x)) (a r)))) (mark_taken c at ws h)
-
-pub fork_yes : {X Y : Type 0} (ks : List ℕ) (a : Reader X) (b : Reader Y) (l : List W) → ahead ks l ≡ true → fork ks a b l ≡ mapped inl (a l)
-fork_yes ks a b l h = cond-true (ahead ks l) _ _ h
-
-pub fork_no : {X Y : Type 0} (ks : List ℕ) (a : Reader X) (b : Reader Y) (l : List W) → ahead ks l ≡ false → fork ks a b l ≡ mapped inr (b l)
-fork_no ks a b l h = cond-false (ahead ks l) _ _ h
+pub exit : {T X : Type 0} (Is : T → X → Type 0) (d : Cursor) {o : Out X} {f : Flaw} (r : Result T Flaw) → IsErrAnd r (λ y. y ≡ f) → Faulted (whole d) f o → Tells Is r d o
+exit Is d {o = o} r e h = let p = err_from_is_err_and r e in subst (λ x. Tells Is x d o) (sym p.1) (subst (λ y. Faulted (whole d) y o) (sym p.2) h)

@@ -1,9 +1,9 @@
+pub mod Ahead
 pub mod Arrows
+pub mod Books
 pub mod Chains
 pub mod Faults
-pub mod Growing
 pub mod Loops
 pub mod Names
 pub mod Places
-pub mod Rows
-pub mod Variables
+pub mod Scoped

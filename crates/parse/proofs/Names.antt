@@ -1,11 +1,11 @@
 -- Names in a table. Assumes nothing.
-use Rattle.std.proofs.Common.{◌≡◌, ℕ, suc, ◌+◌, ◌<◌, ◌≤◌, Bool, true, false, cond, ◌&&◌, ◌||◌, eqb, List, [], ◌∷◌, length, get_or, drop, sym, refl, ap, ◌∙◌, arith}
+use Rattle.std.proofs.Common.{◌≡◌, ℕ, zero, suc, ◌<◌, Bool, true, false, cond, ◌&&◌, ◌||◌, eqb, List, [], ◌∷◌, length, Option, Some, None, MatchOption, MatchBool, map, sym, refl, ap, ◌∙◌, arith}
 use Rattle.std.proofs.lemmas.Bool.{eqb-true, eq-eqb, and_parts, false≢true}
-use Rattle.std.proofs.lemmas.List.{drop_more, drop_all}
-use Rattle.words.specs.declared.name.Name.{Name}
-use Rattle.words.specs.Names.{name_bytes}
+use Rattle.std.proofs.lemmas.List.{length-map}
 use Rattle.syntax.specs.Grammar.{same_name, among}
-use Rattle.parse.specs.Flat.{spelled, index_of}
+use Rattle.parse.specs.Flat.{index_of}
+use Rattle.parse.specs.Scopes.{Found}
+use Rattle.std.specs.List.{AllWithin, HoldsAt}
 
 pub same_refl : (a : List ℕ) → same_name a a ≡ true
 same_refl [] = refl
@@ -27,30 +27,42 @@ same_no a b n = go (same_name a b) refl
     go true h = absurd (n (same_only a b h))
     go false h = h
 
--- a search through a table, from an index on
-module _ (ns : List Name) (v : List ℕ) where
-  abbrev pub Sought : ℕ → Type 0
-  Sought i = (among (spelled ns) v ≡ among (spelled (drop i ns)) v) × (index_of (spelled ns) v ≡ i + index_of (spelled (drop i ns)) v)
+-- a name among those of some values, and the first that has it
+module _ {X : Type 0} (name : X → List ℕ) (v : List ℕ) where
+  abbrev pub Has : X → Type 0
+  Has x = name x ≡ v
 
-  module _ (i : ℕ) (d : Name) (h : i < length ns) (so : Sought i) where
-    opened : drop i ns ≡ get_or ns i d ∷ drop (i + 1) ns
-    opened = drop_more ns i d h
+  abbrev pub Lacks : X → Type 0
+  Lacks x = name x ≡ v → ⊥
 
-    pub sought_here : name_bytes (get_or ns i d) ≡ v → (among (spelled ns) v ≡ true) × (index_of (spelled ns) v ≡ i)
-    sought_here e =
-        let t = same_yes (name_bytes (get_or ns i d)) v e in
-        let z : i + 0 ≡ i = omega arith in (
-          (so.0 ∙ ap (λ l. among (spelled l) v) opened ∙ ap (λ b. b || among (spelled (drop (i + 1) ns)) v) t),
-          (so.1 ∙ ap (λ l. i + index_of (spelled l) v) opened ∙ ap (λ b. i + cond b 0 (suc (index_of (spelled (drop (i + 1) ns)) v))) t ∙ z),
-        )
+  all_lack : (xs : List X) → AllWithin Lacks xs 0 (length xs) → among (map name xs) v ≡ false
+  all_lack [] h = refl
+  all_lack (x ∷ xs) h =
+      let n = same_no (name x) v (h 0 x (omega arith) (omega arith)) in
+      let k = all_lack xs (λ k d a b. h (suc k) d (omega arith) (omega arith)) in
+      ap (λ t. t || among (map name xs) v) n ∙ k
 
-    pub sought_later : (name_bytes (get_or ns i d) ≡ v → ⊥) → Sought (i + 1)
-    sought_later e =
-        let t = same_no (name_bytes (get_or ns i d)) v e in
-        let z : i + suc (index_of (spelled (drop (i + 1) ns)) v) ≡ i + 1 + index_of (spelled (drop (i + 1) ns)) v = omega arith in (
-          (so.0 ∙ ap (λ l. among (spelled l) v) opened ∙ ap (λ b. b || among (spelled (drop (i + 1) ns)) v) t),
-          (so.1 ∙ ap (λ l. i + index_of (spelled l) v) opened ∙ ap (λ b. i + cond b 0 (suc (index_of (spelled (drop (i + 1) ns)) v))) t ∙ z),
-        )
+  one_has : (xs : List X) (i : ℕ) → i < length xs → HoldsAt Has xs i → among (map name xs) v ≡ true
+  one_has [] i h at = absurd (omega arith)
+  one_has (x ∷ xs) zero h at = ap (λ t. t || among (map name xs) v) (same_yes (name x) v (at x))
+  one_has (x ∷ xs) (suc i) h at = ap (λ t. same_name (name x) v || t) (one_has xs i (omega arith) (λ d. at d)) ∙ or_true (same_name (name x) v)
+    where
+      or_true : (t : Bool) → t || true ≡ true
+      or_true true = refl
+      or_true false = refl
 
-  pub sought_none : (i : ℕ) → length ns ≤ i → Sought i → among (spelled ns) v ≡ false
-  sought_none i h so = so.0 ∙ ap (λ l. among (spelled l) v) (drop_all i ns h)
+  first_has : (xs : List X) (i : ℕ) → i < length xs → HoldsAt Has xs i → AllWithin Lacks xs 0 i → index_of (map name xs) v ≡ i
+  first_has [] i h at none = absurd (omega arith)
+  first_has (x ∷ xs) zero h at none = ap (λ t. cond t 0 (suc (index_of (map name xs) v))) (same_yes (name x) v (at x))
+  first_has (x ∷ xs) (suc i) h at none =
+      let n = same_no (name x) v (none 0 x (omega arith) (omega arith)) in
+      let k = first_has xs i (omega arith) (λ d. at d) (λ k d a b. none (suc k) d (omega arith) (omega arith)) in
+      ap (λ t. cond t 0 (suc (index_of (map name xs) v))) n ∙ ap suc k
+
+  pub found_first : (xs : List X) (r : Option ℕ) → MatchOption r (AllWithin Lacks xs 0 (length xs)) (λ i. (i < length xs) × HoldsAt Has xs i × AllWithin Lacks xs 0 i) → Found (map name xs) v r
+  found_first xs None h = all_lack xs h
+  found_first xs (Some i) (l, y, n) = (rw length-map l, one_has xs i l y, first_has xs i l y n)
+
+  pub found_any : (xs : List X) (r : Bool) → MatchBool r ((k : ℕ) × (k < length xs) × HoldsAt Has xs k) (AllWithin Lacks xs 0 (length xs)) → r ≡ among (map name xs) v
+  found_any xs true (k, l, y) = sym (one_has xs k l y)
+  found_any xs false h = sym (all_lack xs h)

@@ -12,7 +12,6 @@ use Rattle.syntax.specs.Grammar.{same_name}
 use Rattle.parse.specs.declared.token.Sign.{Sign}
 use Rattle.parse.specs.declared.token.Sign.TheVariants as is
 use Rattle.parse.specs.declared.number.Number.{Number}
-use Rattle.parse.specs.declared.tree.Term.{Term as Code}
 use Rattle.std.specs.declared.alloc.Global.{Global}
 use Rattle.parse.specs.declared.few.Few.{Few}
 use Rattle.parse.specs.Fews.{few_items}
@@ -20,7 +19,7 @@ use Rattle.parse.specs.declared.tree.Mention.{Mention as CodeMention}
 use Rattle.parse.specs.declared.tree.Item.{Item as CodeItem}
 use Rattle.parse.specs.declared.tree.Comparison.{Comparison}
 use Rattle.parse.specs.Flaws.{listed}
-use Rattle.parse.specs.Model.{Term, number, cell, variable, sum, term, Asking, asking, Tell, Mention, mention, Item, item, add, tell, fail, Alternative}
+use Rattle.parse.specs.Model.{Term, number, cell, variable, sum, Asking, asking, Tell, Mention, mention, Item, item, add, tell, fail, Alternative}
 
 -- the names of a table, as bytes
 abbrev pub spelled : List Name → List (List ℕ)
@@ -167,16 +166,6 @@ offset_value (Some n) = Some n.value
 abbrev pub IsSum : Option Number → tree.Sum → Type 0
 IsSum x y = sum_value y ≡ offset_value x
 
--- what was read is what the tree comes to
-abbrev pub IsLeft : List (List ℕ) → Code → tree.Left → Type 0
-IsLeft vs x y = left_term vs y ≡ term x
-
-abbrev pub IsRight : List (List ℕ) → Code → tree.Right → Type 0
-IsRight vs x y = right_term vs y ≡ term x
-
-abbrev pub IsArgument : List (List ℕ) → Code → tree.Argument → Type 0
-IsArgument vs x y = argument_term vs y ≡ term x
-
 -- the items of an alternative or goal
 abbrev pub IsContent : List (List ℕ) → Vec (CodeItem CodeMention) Global → tree.Content → Type 0
 IsContent vs x y = content_of vs y ≡ map item (vec_items x)
@@ -185,18 +174,12 @@ IsContent vs x y = content_of vs y ≡ map item (vec_items x)
 abbrev pub IsGuard : List (List ℕ) → Vec (Comparison Relation) Global → tree.Guard → Type 0
 IsGuard vs x y = guard_of vs y ≡ map asking (vec_items x)
 
--- arguments and heads, under the variables of the rule
-abbrev pub pattern_terms : List (List ℕ) → parts.Some tree.Left → List Term
-pattern_terms vs xs = map (left_term vs) (listed xs)
-
+-- heads, under the variables of the rule
 abbrev pub head_mention : List (List ℕ) → tree.Fact tree.Left → Mention
 head_mention vs f = mention_of (left_term vs) f
 
 abbrev pub head_mentions : List (List ℕ) → parts.Some (tree.Fact tree.Left) → List Mention
 head_mentions vs hs = map (head_mention vs) (listed hs)
-
-abbrev pub few_terms : Few Code → List Term
-few_terms xs = map term (few_items xs)
 
 abbrev pub few_mentions : Few CodeMention → List Mention
 few_mentions xs = map mention (few_items xs)

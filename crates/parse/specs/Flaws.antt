@@ -1,10 +1,9 @@
 -- What the answers of the code's readers mean: how they agree with the grammar's reader. Assumes nothing.
-use Rattle.std.specs.Prelude.{◌≡◌, ℕ, true, false, List, [], ◌∷◌, map, drop, Ok, Err, Option, Result}
-use Rattle.std.specs.declared.option.Option.TheVariants as option
+use Rattle.std.specs.Prelude.{◌≡◌, ℕ, List, [], ◌∷◌, map, drop}
 use Rattle.words.specs.declared.name.Name.{Name}
 use Rattle.words.specs.Names.{name_bytes}
-use Rattle.syntax.specs.Syntax.{W, kind, sign, ahead, Out, ok, barred, flawed}
-use Rattle.syntax.specs.Parts.{mark, Some, last, more}
+use Rattle.syntax.specs.Syntax.{W, Out, barred, flawed}
+use Rattle.syntax.specs.Parts.{Some, last, more}
 use Rattle.syntax.specs.Tree.{Label}
 use Rattle.syntax.specs.Grammar.{label_name}
 use Rattle.parse.specs.declared.flaw.Flaw.{Flaw}
@@ -27,21 +26,6 @@ FoundFlaw ws Memory o = Unit {0}
 -- the code's flaw is that of the grammar's reader
 pub record Faulted {X : Type 0} (ws : List W) (f : Flaw) (o : Out X) : Type 0 where
   pub found : FoundFlaw ws f o
-
--- a part was passed over, up to an index
-abbrev pub Passes : List W → Result ℕ Flaw → Out (Unit {0}) → Type 0
-Passes ws (Ok e) o = o ≡ ok tt (drop e ws)
-Passes ws (Err f) o = Faulted ws f o
-
--- the mark c stands at an index and ends at another, or does not stand there
-abbrev pub Skips : ℕ → List W → ℕ → Option ℕ → Type 0
-Skips c ws at option.None = ahead (kind (sign c) ∷ []) (drop at ws) ≡ false
-Skips c ws at (option.Some e) = (ahead (kind (sign c) ∷ []) (drop at ws) ≡ true) × (mark c (drop at ws) ≡ ok tt (drop e ws))
-
--- a part was read up to an index: the grammar's reader reads a tree that comes to the same
-abbrev pub Tells : {T X : Type 0} → (T → X → Type 0) → List W → Result (T × ℕ) Flaw → Out X → Type 0
-Tells {X = X} Is ws (Ok x) o = (y : X) × Is x.0 y × (o ≡ ok y (drop x.1 ws))
-Tells Is ws (Err f) o = Faulted ws f o
 
 -- the tree is what a function makes of what was read
 abbrev pub IsTo : {T X : Type 0} → (T → X) → T → X → Type 0

@@ -1,9 +1,13 @@
+pub mod Cursors
+pub mod Rows
+pub mod Facts
+pub mod Starts
+pub mod Relations
 pub mod Fews
 pub mod Flat
 pub mod Flaws
 pub mod Model
-pub mod Rules
 pub mod Scopes
 pub mod Tokens
+pub mod Rules
 pub mod Whole
-pub mod Starts

@@ -1,20 +1,19 @@
 -- Rules as the code holds them, and as the grammar's trees come to. Assumes nothing.
-use Rattle.std.specs.Prelude.{◌≡◌, ℕ, ◌-◌, List, [], ◌∷◌, map, drop, Ok, Err, vec_items, Result}
+use Rattle.std.specs.Prelude.{◌≡◌, ℕ, ◌-◌, List, [], ◌∷◌, map, vec_items}
 use Rattle.words.specs.Names.{name_bytes}
-use Rattle.syntax.specs.Syntax.{W, kind, sign, Out, ok, Reader, both, fork, via}
+use Rattle.syntax.specs.Syntax.{kind, sign, Reader, both, fork, via}
 use Rattle.syntax.specs.Parts.{Some}
 use Rattle.syntax.specs.Marks.{backslash, simplify, simplify_guarded, propagate, propagate_guarded}
 use Rattle.syntax.specs.Tree as tree
 use Rattle.syntax.specs.Grammar.{Scope, binding, bound, seal, next_all, next_head, behind, label_name}
 use Rattle.syntax.specs.Readers.{arrow_of, on_mark, read_heads, read_guard}
-use Rattle.parse.specs.declared.flaw.Flaw.{Flaw}
 use Rattle.parse.specs.declared.few.Few.{Few}
 use Rattle.parse.specs.declared.tree.Mention.{Mention as CodeMention}
 use Rattle.parse.specs.declared.tree.Arrow.{Arrow as CodeArrow}
 use Rattle.parse.specs.declared.tree.Rule.{Rule as CodeRule}
 use Rattle.parse.specs.Model.{Mention, Asking, asking, Alternative, alternative}
 use Rattle.parse.specs.Flat.{head_mentions, few_mentions, guard_of, alternative_of}
-use Rattle.parse.specs.Flaws.{listed, Faulted}
+use Rattle.parse.specs.Flaws.{listed}
 use Rattle.parse.specs.Scopes.{variables, scope_names}
 
 -- what stands between the first heads and the body: the kept heads, the removed ones and the guard
@@ -43,6 +42,13 @@ rule_view r = record {
   guard = map asking (vec_items r.guard);
   body = map alternative (vec_items r.body);
 }
+
+-- the names of rules
+abbrev pub label_bytes : CodeRule → List ℕ
+label_bytes r = name_bytes r.label
+
+abbrev pub labels : List CodeRule → List (List ℕ)
+labels rs = map label_bytes rs
 
 -- before `==>` the first heads are kept, before `<=>` removed, and before `\` kept, with the others removed
 abbrev pub arrow_model : List (List ℕ) → List Mention → tree.Arrow → Arrow
@@ -77,8 +83,6 @@ behind_from σ (tree.propagating g) = seal σ
 behind_from σ (tree.simplifying g) = seal σ
 behind_from σ (tree.simpagating rs g) = seal (next_all next_head σ rs)
 
--- the arrow was read up to an index, and the variables grew from vs to us
-abbrev pub Arrives : List W → List (List ℕ) → Few CodeMention → Result (CodeArrow × ℕ) Flaw → List (List ℕ) → Out tree.Arrow → Type 0
-Arrives ws vs first (Ok x) us o =
-    (y : tree.Arrow) × (behind_from (binding vs) y ≡ bound us) × (arrow_model us (few_mentions first) y ≡ arrow_view x.0) × (o ≡ ok y (drop x.1 ws))
-Arrives ws vs first (Err f) us o = Faulted ws f o
+-- the arrow read is that of the tree, behind which the variables grew from vs to us
+abbrev pub IsArrow : List (List ℕ) → List (List ℕ) → Few CodeMention → CodeArrow → tree.Arrow → Type 0
+IsArrow vs us first x y = (behind_from (binding vs) y ≡ bound us) × (arrow_model us (few_mentions first) y ≡ arrow_view x)

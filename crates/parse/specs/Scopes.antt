@@ -1,10 +1,9 @@
 -- The code's scopes as the grammar's. Assumes nothing.
-use Rattle.std.specs.Prelude.{◌≡◌, ℕ, ◌<◌, true, false, List, [], ◌++◌, length, drop, Some, None, Ok, Err, vec_items, Option, Result}
+use Rattle.std.specs.Prelude.{◌≡◌, ℕ, ◌<◌, true, false, List, [], ◌++◌, length, Some, None, Ok, Err, vec_items, Option, Result}
 use Rattle.words.specs.declared.name.Name.{Name}
 use Rattle.words.specs.Names.{name_bytes}
-use Rattle.syntax.specs.Syntax.{W, mem, fine, flaw, Out, ok}
+use Rattle.syntax.specs.Syntax.{mem, fine, flaw}
 use Rattle.syntax.specs.Grammar as grammar
-use Rattle.parse.specs.declared.flaw.Flaw.{Flaw}
 use Rattle.parse.specs.declared.number.Variable.{Variable}
 use Rattle.parse.specs.declared.scope.Names.{Names}
 use Rattle.parse.specs.declared.scope.Scope.{Scope}
@@ -14,7 +13,6 @@ use Rattle.syntax.specs.Grammar.{spelling}
 use Rattle.parse.specs.declared.token.Lexeme.{Lexeme}
 use Rattle.parse.specs.Tokens.{lexeme_kind, lexeme_word}
 use Rattle.parse.specs.Flat.{spelled, index_of}
-use Rattle.parse.specs.Flaws.{Faulted}
 
 -- the names of a rule's variables
 abbrev pub variables : Names → List (List ℕ)
@@ -49,15 +47,19 @@ Joins vs v (Ok None) us = grammar.var_note (grammar.binding vs) v ≡ flaw 5
 Joins vs v (Ok (Some i)) us = (grammar.var_note (grammar.binding vs) v ≡ fine) × (us ≡ grammar.joined vs v) × ((more : List (List ℕ)) → index_of (us ++ more) v ≡ i.index)
 Joins vs v (Err e) us = Unit {0}
 
--- a variable by its number among others
-abbrev pub IsVariable : List (List ℕ) → Variable → List ℕ → Type 0
-IsVariable vs x y = index_of vs y ≡ x.index
+-- the tables in which the names of a scope have the numbers that they have in it: behind those of the heads others may join
+abbrev pub Numbers : grammar.Scope → List (List ℕ) → Type 0
+Numbers (grammar.binding vs) us = (more : List (List ℕ)) × (us ≡ vs ++ more)
+Numbers (grammar.bound vs) us = us ≡ vs
+Numbers grammar.closed us = us ≡ []
 
--- a part of a head was read up to an index, and the variables grew from vs to us: the tree comes to the same under these and any more
-abbrev pub Grows : {T M X : Type 0} → (T → M) → (List (List ℕ) → X → M) → (grammar.Scope → X → grammar.Scope) → List W → List (List ℕ) → Result (T × ℕ) Flaw → List (List ℕ) → Out X → Type 0
-Grows {X = X} view flat next ws vs (Ok x) us o =
-    (y : X) × (next (grammar.binding vs) y ≡ grammar.binding us) × ((more : List (List ℕ)) → flat (us ++ more) y ≡ view x.0) × (o ≡ ok y (drop x.1 ws))
-Grows view flat next ws vs (Err f) us o = Faulted ws f o
+-- the names that a scope has keep their numbers as others join
+abbrev pub Keeps : {X : Type 0} → (grammar.Scope → X → grammar.Scope) → Type 0
+Keeps {X = X} next = (σ : grammar.Scope) (y : X) (us : List (List ℕ)) → Numbers (next σ y) us → Numbers σ us
+
+-- what was read is what the tree comes to, as the scope σ grew to τ
+abbrev pub Grown : {T M X : Type 0} → (T → M) → (List (List ℕ) → X → M) → (grammar.Scope → X → grammar.Scope) → grammar.Scope → grammar.Scope → T → X → Type 0
+Grown view flat next σ τ x y = (next σ y ≡ τ) × ((us : List (List ℕ)) → Numbers τ us → flat us y ≡ view x)
 
 -- the name that a word gives to a rule, or none where it is no such word
 abbrev pub Labels : Lexeme → Option Name → Type 0

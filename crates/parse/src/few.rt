@@ -76,3 +76,19 @@ impl<T: Copy> Few<T> {
         }
     }
 }
+
+#[cfg(test)]
+mod tests {
+    use super::*;
+    use std::test::Fail;
+
+    #[test]
+    fn appends_behind_the_others(rt: HostRuntime) -> Result<(), Fail> {
+        let mut out = Vec::new(rt.alloc());
+        Few::Three(1u8, 2, 3).append_to(&mut out)?;
+        Few::One(4u8).append_to(&mut out)?;
+        Few::Two(5u8, 6).append_to(&mut out)?;
+        assert_eq!(rt; out.as_slice(), [1, 2, 3, 4, 5, 6].as_slice());
+        Ok(())
+    }
+}

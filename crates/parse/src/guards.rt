@@ -1,76 +1,78 @@
-// Guards.
-ghost use Rattle.std.specs.Prelude.{◌≡◌, drop, vec_items};
-ghost use Rattle.syntax.specs.Readers.{read_asking, read_askings, read_guard};
-ghost use Rattle.parse.specs.Tokens.{words, sign_code};
-ghost use Rattle.parse.specs.Model.{asking as the-asking};
-ghost use Rattle.parse.specs.Flat.{asking_of, IsGuard};
-ghost use Rattle.parse.specs.Flaws.{Tells, IsAs, AreAs};
+// Comparisons and guards.
+ghost use Rattle.std.specs.Prelude.{◌≡◌};
+ghost use Rattle.syntax.specs.Grammar.{same};
+ghost use Rattle.syntax.specs.Readers.{read_comparison, read_guard};
+ghost use Rattle.syntax.specs.Tree as tree;
+ghost use Rattle.parse.specs.Cursors.{rest, Tells};
+ghost use Rattle.parse.specs.Facts.{same_keeps};
+ghost use Rattle.parse.specs.Flat.{IsGuard};
+ghost use Rattle.parse.specs.Relations.{compared_view, compared_value};
 ghost use Rattle.parse.specs.Scopes.{scope as scoped, scope_variables};
+ghost use Rattle.parse.specs.Tokens.{sign_code};
 
+use crate::cursor::Cursor;
 use crate::flaw::Flaw;
-use crate::leaf::{expect, relation, skip};
+use crate::parts::{Part, parts};
+use crate::relations::Relates;
 use crate::scope::Scope;
-use crate::starts::{Part, one_too_many};
 use crate::terms::{left, right};
-use crate::token::{Sign, Token};
-use crate::tree::Asking;
-use std::alloc::Global;
+use crate::token::Sign;
+use crate::tree::{Asking, Comparison};
 
-// A comparison, and where it ends.
-fn asking(ts: &[Token], at: usize, scope: Scope) -> Result<(Asking, usize), Flaw>
-    ensures { Tells (IsAs the-asking (asking_of (scope_variables scope.entry))) (words ts.now) result (read_asking (scoped scope.entry) (drop at (words ts.now))) }
-{
-    let (left, next) = left(ts, at, scope)?;
-    let (relation, last) = relation(ts, next)?;
-    let (right, end) = right(ts, last, scope)?;
-    Ok((
-        Asking {
+impl<'a, R: Relates> Part<Scope<'a>> for Comparison<R> {
+    ghost Tree = { tree.Comparison R.Tree };
+
+    ghost Value = { R.Value };
+
+    ghost view = { compared_view R.made };
+
+    ghost value = { compared_value R.made R.plain };
+
+    ghost next = { same };
+
+    ghost reader = { read_comparison R.reader };
+
+    ghost keeps = { same_keeps };
+
+    fn read(cursor: &mut Cursor, scope: &mut Scope<'a>) -> Result<Comparison<R>, Flaw> {
+        let left = left(cursor, scope)?;
+        let relation = cursor.relation()?;
+        let right = right(cursor, scope)?;
+        Ok(Comparison {
             left,
             relation,
             right,
-        },
-        end,
-    ))
-}
-
-// One to four comparisons parted by commas, and where they end.
-fn askings(
-    heap: Global,
-    ts: &[Token],
-    at: usize,
-    scope: Scope,
-) -> Result<(Vec<Asking>, usize), Flaw>
-    ensures { Tells (AreAs vec_items the-asking (asking_of (scope_variables scope.entry))) (words ts.now) result (read_askings (scoped scope.entry) (drop at (words ts.now))) }
-{
-    let mut list = Vec::new(heap);
-    let mut place = at;
-    for _turn in 0..4u8 {
-        let (comparison, end) = asking(ts, place, scope)?;
-        list.push(comparison)?;
-        let Some(next) = skip(ts, end, Sign::Comma) else {
-            return Ok((list, end));
-        };
-        place = next;
+        })
     }
-    Err(one_too_many(ts, place, Part::Term))
 }
 
-// An arrow with its guard, if it has one, and where they end.
-pub fn guard(
-    heap: Global,
-    ts: &[Token],
-    at: usize,
-    scope: Scope,
-    plain: Sign,
-    guarding: Sign,
-) -> Result<(Vec<Asking>, usize), Flaw>
-    ensures { Tells (IsGuard (scope_variables scope.entry)) (words ts.now) result (read_guard (sign_code plain) (sign_code guarding) (scoped scope.entry) (drop at (words ts.now))) }
+// An arrow's marks: with no guard, and where a guard follows.
+#[derive(Clone, Copy)]
+pub struct Marks {
+    pub plain: Sign,
+    pub guarding: Sign,
+}
+
+pub const SIMPLIFY: Marks = Marks {
+    plain: Sign::Simplify,
+    guarding: Sign::SimplifyGuarded,
+};
+
+pub const PROPAGATE: Marks = Marks {
+    plain: Sign::Propagate,
+    guarding: Sign::PropagateGuarded,
+};
+
+// An arrow with its guard, if it has one.
+pub fn guard(cursor: &mut Cursor, mut scope: Scope, marks: Marks) -> Result<Vec<Asking>, Flaw>
+    ensures same { cursor.new.tokens ≡ cursor.old.tokens }
+    ensures told { Tells (IsGuard (scope_variables scope.entry)) result cursor.new (read_guard (sign_code marks.plain) (sign_code marks.guarding) (scoped scope.entry) (rest cursor.old)) }
 {
-    let Some(next) = skip(ts, at, guarding) else {
-        let end = expect(ts, at, plain)?;
-        return Ok((Vec::new(heap), end));
-    };
-    let (list, last) = askings(heap, ts, next, scope)?;
-    let end = expect(ts, last, Sign::Bar)?;
-    Ok((list, end))
+    if !cursor.skip(marks.guarding) {
+        cursor.expect(marks.plain)?;
+        return Ok(Vec::new(cursor.heap));
+    }
+    let list = parts(cursor, &mut scope, Sign::Comma, 4)?;
+    cursor.expect(Sign::Bar)?;
+    Ok(list)
 }

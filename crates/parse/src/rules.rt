@@ -1,127 +1,77 @@
 // Rules.
-ghost use Rattle.std.specs.Prelude.{◌≡◌, [], ◌∷◌, length, drop};
-ghost use Rattle.syntax.specs.Syntax.{kind, sign, ahead};
-ghost use Rattle.syntax.specs.Marks.{propagate, propagate_guarded};
+ghost use Rattle.std.specs.Prelude.{◌≡◌, length};
 ghost use Rattle.syntax.specs.Grammar.{binding};
 ghost use Rattle.syntax.specs.Readers.{read_rule};
-ghost use Rattle.parse.specs.Tokens.{words};
+ghost use Rattle.parse.specs.Cursors.{rest, Tells};
 ghost use Rattle.parse.specs.Fews.{few_items};
-ghost use Rattle.parse.specs.Flat.{spelled};
-ghost use Rattle.parse.specs.Flaws.{Tells, IsAs};
-ghost use Rattle.parse.specs.Rules.{arrow_from, Arrives, rule_view, rule_model};
+ghost use Rattle.parse.specs.Flaws.{IsAs};
+ghost use Rattle.parse.specs.Rules.{arrow_from, IsArrow, labels, rule_view, rule_model};
 ghost use Rattle.parse.specs.Scopes.{variables};
 
-use crate::bodies::alternatives;
-use crate::few::{Few, Room};
+use crate::bodies::body;
+use crate::cursor::Cursor;
+use crate::few::Few;
 use crate::flaw::Flaw;
-use crate::guards::guard;
-use crate::heads::heads;
-use crate::leaf::{expect, label, mark_ahead, skip};
+use crate::guards::{PROPAGATE, SIMPLIFY, guard};
+use crate::parts::parts;
 use crate::scope::{Names, Scope};
-use crate::token::{Sign, Token};
+use crate::token::Sign;
 use crate::tree::{Arrow, Mention, Rule};
-use std::alloc::Global;
-use words::name::Name;
 
-// Whether `==>` stands at an index, with a guard behind it or not.
-fn propagates(ts: &[Token], at: usize) -> bool
-    ensures { result ≡ ahead (kind (sign propagate) ∷ kind (sign propagate_guarded) ∷ []) (drop at (words ts.now)) }
+// What stands between the first heads and the body.
+fn arrow(cursor: &mut Cursor, names: &mut Names, first: Few<Mention>) -> Result<Arrow, Flaw>
+    ensures same { cursor.new.tokens ≡ cursor.old.tokens }
+    ensures told { Tells (IsArrow (variables names.old) (variables names.new) first) result cursor.new (arrow_from (length (few_items first)) (binding (variables names.old)) (rest cursor.old)) }
 {
-    mark_ahead(ts, at, Sign::Propagate) || mark_ahead(ts, at, Sign::PropagateGuarded)
-}
-
-// What stands between the first heads and the body, and where it ends.
-fn arrow(
-    heap: Global,
-    ts: &[Token],
-    at: usize,
-    names: &mut Names,
-    first: Few<Mention>,
-) -> Result<(Arrow, usize), Flaw>
-    ensures { Arrives (words ts.now) (variables names.old) first result (variables names.new) (arrow_from (length (few_items first)) (binding (variables names.old)) (drop at (words ts.now))) }
-{
-    if let Some(next) = skip(ts, at, Sign::Backslash) {
-        let (removed, last) = heads(ts, next, names, first.room())?;
-        let (guard, end) = guard(
-            heap,
-            ts,
-            last,
-            Scope::Rule(names),
-            Sign::Simplify,
-            Sign::SimplifyGuarded,
-        )?;
-        return Ok((
-            Arrow {
-                kept: first,
-                removed,
-                guard,
-            },
-            end,
-        ));
-    }
-    if propagates(ts, at) {
-        let (guard, end) = guard(
-            heap,
-            ts,
-            at,
-            Scope::Rule(names),
-            Sign::Propagate,
-            Sign::PropagateGuarded,
-        )?;
-        return Ok((
-            Arrow {
-                kept: first,
-                removed: Few::Zero,
-                guard,
-            },
-            end,
-        ));
-    }
-    let (guard, end) = guard(
-        heap,
-        ts,
-        at,
-        Scope::Rule(names),
-        Sign::Simplify,
-        Sign::SimplifyGuarded,
-    )?;
-    Ok((
-        Arrow {
-            kept: Few::Zero,
-            removed: first,
+    if cursor.skip(Sign::Backslash) {
+        let removed = parts(cursor, names, Sign::Comma, first.room().left)?;
+        let guard = guard(cursor, Scope::Rule(names), SIMPLIFY)?;
+        return Ok(Arrow {
+            kept: first,
+            removed,
             guard,
-        },
-        end,
-    ))
+        });
+    }
+    if cursor.propagates() {
+        let guard = guard(cursor, Scope::Rule(names), PROPAGATE)?;
+        return Ok(Arrow {
+            kept: first,
+            removed: Few::Zero,
+            guard,
+        });
+    }
+    let guard = guard(cursor, Scope::Rule(names), SIMPLIFY)?;
+    Ok(Arrow {
+        kept: Few::Zero,
+        removed: first,
+        guard,
+    })
 }
 
-// A rule whose name no rule before has, and where it ends.
-pub fn rule(heap: Global, ts: &[Token], at: usize, labels: &[Name]) -> Result<(Rule, usize), Flaw>
-    ensures { Tells (IsAs rule_view rule_model) (words ts.now) result (read_rule (spelled labels.now) (drop at (words ts.now))) }
+// A rule whose name no rule before has.
+pub fn rule(cursor: &mut Cursor, rules: &[Rule]) -> Result<Rule, Flaw>
+    ensures same { cursor.new.tokens ≡ cursor.old.tokens }
+    ensures told { Tells (IsAs rule_view rule_model) result cursor.new (read_rule (labels rules.now) (rest cursor.old)) }
 {
-    let (label, behind) = label(ts, at, labels)?;
-    let start = expect(ts, behind, Sign::At)?;
+    let label = cursor.label(rules)?;
+    cursor.expect(Sign::At)?;
     let mut names = Names {
-        list: Vec::new(heap),
+        list: Vec::new(cursor.heap),
     };
-    let (first, next) = heads(ts, start, &mut names, Room { left: 3 })?;
-    let (arrow, open) = arrow(heap, ts, next, &mut names, first)?;
-    let (body, last) = alternatives(heap, ts, open, Scope::Rule(&names))?;
-    let end = expect(ts, last, Sign::Dot)?;
+    let first = parts(cursor, &mut names, Sign::Comma, 3)?;
     let Arrow {
         kept,
         removed,
         guard,
-    } = arrow;
-    Ok((
-        Rule {
-            label,
-            variables: names,
-            kept,
-            removed,
-            guard,
-            body,
-        },
-        end,
-    ))
+    } = arrow(cursor, &mut names, first)?;
+    let body = body(cursor, Scope::Rule(&names))?;
+    cursor.expect(Sign::Dot)?;
+    Ok(Rule {
+        label,
+        variables: names,
+        kept,
+        removed,
+        guard,
+        body,
+    })
 }

@@ -1,84 +1,95 @@
 // Which words begin a part, and the flaw of one part too many.
-ghost use Rattle.std.specs.Prelude.{◌≡◌};
+ghost use Rattle.std.specs.Prelude.{◌≡◌, ℕ, List, [], ◌∷◌};
 ghost use Rattle.syntax.specs.Syntax.{mem};
-ghost use Rattle.syntax.specs.Readers.{first_left, first_item, first_alternative, first_rule};
-ghost use Rattle.parse.specs.Tokens.{words, lexeme_kind};
-ghost use Rattle.parse.specs.Starts.{first_of, Over};
+ghost use Rattle.syntax.specs.Readers.{name_kind, first_left, first_item, first_alternative, first_rule};
+ghost use Rattle.parse.specs.Tokens.{lexeme_kind};
+ghost use Rattle.parse.specs.Cursors.{whole};
+ghost use Rattle.parse.specs.Starts.{Over};
 
+use crate::cursor::Cursor;
 use crate::flaw::Flaw;
-use crate::leaf::look;
-use crate::token::{Lexeme, Sign, Token};
+use crate::token::{Lexeme, Sign};
+use crate::tree::{Alternative, Comparison, Item, Mention, Rule, Term};
 
-// A part of which there may be one too many.
-#[derive(Clone, Copy, Debug, PartialEq, Eq)]
-pub enum Part {
-    Term,
-    Item,
-    Alternative,
-    Head,
-    Rule,
+// A part that begins with a word of certain kinds.
+pub trait Begins {
+    ghost first: { List ℕ };
+
+    fn begins(lexeme: Lexeme) -> bool
+        ensures { result ≡ mem first (lexeme_kind lexeme) };
 }
 
-fn begins_term(lexeme: Lexeme) -> bool
-    ensures { result ≡ mem first_left (lexeme_kind lexeme) }
-{
-    match lexeme {
-        Lexeme::Variable(_) | Lexeme::Number(_) => true,
-        Lexeme::Sign(s) => matches!(s, Sign::Hash | Sign::Minus),
-        _ => false,
+impl Begins for Term {
+    ghost first = { first_left };
+
+    fn begins(lexeme: Lexeme) -> bool {
+        match lexeme {
+            Lexeme::Variable(_) | Lexeme::Number(_) => true,
+            Lexeme::Sign(s) => matches!(s, Sign::Hash | Sign::Minus),
+            _ => false,
+        }
     }
 }
 
-fn begins_item(lexeme: Lexeme) -> bool
-    ensures { result ≡ mem first_item (lexeme_kind lexeme) }
-{
-    match lexeme {
-        Lexeme::Name(_) | Lexeme::Variable(_) | Lexeme::Number(_) => true,
-        Lexeme::Sign(s) => matches!(s, Sign::Fail | Sign::Hash | Sign::Minus),
-        _ => false,
+impl<R> Begins for Comparison<R> {
+    ghost first = { first_left };
+
+    fn begins(lexeme: Lexeme) -> bool {
+        Term::begins(lexeme)
     }
 }
 
-fn begins_alternative(lexeme: Lexeme) -> bool
-    ensures { result ≡ mem first_alternative (lexeme_kind lexeme) }
-{
-    match lexeme {
-        Lexeme::Sign(s) => matches!(s, Sign::True | Sign::Fail | Sign::Hash | Sign::Minus),
-        _ => true,
+impl Begins for Mention {
+    ghost first = { name_kind ∷ [] };
+
+    fn begins(lexeme: Lexeme) -> bool {
+        matches!(lexeme, Lexeme::Name(_))
     }
 }
 
-fn begins_rule(lexeme: Lexeme) -> bool
-    ensures { result ≡ mem first_rule (lexeme_kind lexeme) }
-{
-    match lexeme {
-        Lexeme::Name(_) => true,
-        Lexeme::Sign(s) => matches!(s, Sign::True | Sign::Fail),
-        _ => false,
+impl<F> Begins for Item<F> {
+    ghost first = { first_item };
+
+    fn begins(lexeme: Lexeme) -> bool {
+        match lexeme {
+            Lexeme::Name(_) | Lexeme::Variable(_) | Lexeme::Number(_) => true,
+            Lexeme::Sign(s) => matches!(s, Sign::Fail | Sign::Hash | Sign::Minus),
+            _ => false,
+        }
     }
 }
 
-fn begins(lexeme: Lexeme, part: Part) -> bool
-    ensures { result ≡ mem (first_of part) (lexeme_kind lexeme) }
-{
-    match part {
-        Part::Term => begins_term(lexeme),
-        Part::Item => begins_item(lexeme),
-        Part::Alternative => begins_alternative(lexeme),
-        Part::Head => matches!(lexeme, Lexeme::Name(_)),
-        Part::Rule => begins_rule(lexeme),
+impl Begins for Alternative {
+    ghost first = { first_alternative };
+
+    fn begins(lexeme: Lexeme) -> bool {
+        match lexeme {
+            Lexeme::Sign(s) => matches!(s, Sign::True | Sign::Fail | Sign::Hash | Sign::Minus),
+            _ => true,
+        }
     }
 }
 
-// The flaw of one part too many, or of the word that stands in its place.
-pub fn one_too_many(ts: &[Token], at: usize, part: Part) -> Flaw
-    ensures { Over (words ts.now) result (first_of part) at }
-{
-    let Some(t) = look(ts, at) else {
-        return Flaw::Barred(at);
-    };
-    if begins(t.lexeme, part) {
-        return Flaw::TooMany(at);
+impl Begins for Rule {
+    ghost first = { first_rule };
+
+    fn begins(lexeme: Lexeme) -> bool {
+        match lexeme {
+            Lexeme::Name(_) => true,
+            Lexeme::Sign(s) => matches!(s, Sign::True | Sign::Fail),
+            _ => false,
+        }
     }
-    Flaw::Barred(at)
+}
+
+impl<'a> Cursor<'a> {
+    // The flaw of one part too many, or of the word that stands in its place.
+    pub fn one_too_many<P: Begins>(&self) -> Flaw
+        ensures { Over (whole self.now) result P.first self.now.at }
+    {
+        match self.look() {
+            Some(t) if P::begins(t.lexeme) => Flaw::TooMany(self.at),
+            _ => Flaw::Barred(self.at),
+        }
+    }
 }

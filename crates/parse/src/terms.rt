@@ -1,60 +1,62 @@
 // Sides of comparisons and arguments of facts.
-ghost use Rattle.std.specs.Prelude.{◌≡◌, drop};
+ghost use Rattle.std.specs.Prelude.{◌≡◌, ℕ, List};
+ghost use Rattle.syntax.specs.Syntax.{Reader};
+ghost use Rattle.syntax.specs.Grammar.{Scope as GrammarScope, same, next_left, next_head};
 ghost use Rattle.syntax.specs.Readers.{read_number, read_left, read_right, read_sum, read_argument};
-ghost use Rattle.parse.specs.Tokens.{words};
-ghost use Rattle.parse.specs.Flat.{IsNumber, IsLeft, IsRight, IsSum, IsArgument, offset_value, sum_of};
-ghost use Rattle.parse.specs.Model.{term};
-ghost use Rattle.parse.specs.Flaws.{Tells};
-ghost use Rattle.parse.specs.Scopes.{scope as scoped, scope_variables};
+ghost use Rattle.syntax.specs.Tree as tree;
+ghost use Rattle.parse.specs.Cursors.{rest, Tells};
+ghost use Rattle.parse.specs.Flat.{IsNumber, IsSum, left_term, right_term, argument_term, offset_value, sum_of};
+ghost use Rattle.parse.specs.Model.{Term as PlainTerm, term};
+ghost use Rattle.parse.specs.Scopes.{scope as scoped, Grown, Keeps};
+ghost use Rattle.parse.specs.Facts.{FactGrows, left_keeps, head_grows, same_keeps, adding_grows};
 
+use crate::cursor::Cursor;
 use crate::flaw::Flaw;
-use crate::leaf::{cell_number, number, skip, variable, variable_ahead};
 use crate::number::{Number, Variable};
-use crate::scope::Scope;
-use crate::token::{Sign, Token};
+use crate::scope::{Names, Scope};
+use crate::token::Sign;
 use crate::tree::Term;
+use crate::variables::Variables;
 
-// A signed number, and where it ends.
-pub fn signed(ts: &[Token], at: usize) -> Result<(Number, usize), Flaw>
-    ensures { Tells IsNumber (words ts.now) result (read_number (drop at (words ts.now))) }
-{
-    if let Some(next) = skip(ts, at, Sign::Minus) {
-        let (n, end) = number(ts, next)?;
-        return Ok((Number::negative(n), end));
+impl<'a> Cursor<'a> {
+    // A signed number.
+    pub fn signed(&mut self) -> Result<Number, Flaw>
+        ensures same { self.new.tokens ≡ self.old.tokens }
+        ensures told { Tells IsNumber result self.new (read_number (rest self.old)) }
+    {
+        if self.skip(Sign::Minus) {
+            return Ok(-Number::from(self.number()?));
+        }
+        Ok(Number::from(self.number()?))
     }
-    let (n, end) = number(ts, at)?;
-    Ok((Number::positive(n), end))
+
+    // What is added to a variable, if anything is.
+    fn offset(&mut self) -> Result<Option<Number>, Flaw>
+        ensures same { self.new.tokens ≡ self.old.tokens }
+        ensures told { Tells IsSum result self.new (read_sum (rest self.old)) }
+    {
+        if self.skip(Sign::Plus) {
+            return Ok(Some(Number::from(self.number()?)));
+        }
+        if self.skip(Sign::Minus) {
+            return Ok(Some(-Number::from(self.number()?)));
+        }
+        Ok(None)
+    }
 }
 
-// The left side of a comparison, and where it ends.
-pub fn left(ts: &[Token], at: usize, scope: Scope) -> Result<(Term, usize), Flaw>
-    ensures { Tells (IsLeft (scope_variables scope.entry)) (words ts.now) result (read_left (scoped scope.entry) (drop at (words ts.now))) }
+// The left side of a comparison, or an argument of a head.
+pub fn left<S: Variables>(cursor: &mut Cursor, scope: &mut S) -> Result<Term, Flaw>
+    ensures same { cursor.new.tokens ≡ cursor.old.tokens }
+    ensures told { Tells (Grown term left_term next_left (S.holds scope.old) (S.holds scope.new)) result cursor.new (read_left (S.holds scope.old) (rest cursor.old)) }
 {
-    if let Some(next) = skip(ts, at, Sign::Hash) {
-        let (cell, end) = cell_number(ts, next)?;
-        return Ok((Term::Cell(cell), end));
+    if cursor.skip(Sign::Hash) {
+        return Ok(Term::Cell(cursor.cell_number()?));
     }
-    if variable_ahead(ts, at) {
-        let (v, end) = variable(ts, at, scope)?;
-        return Ok((Term::Variable(v), end));
+    if cursor.variable_ahead() {
+        return Ok(Term::Variable(scope.variable(cursor)?));
     }
-    let (n, end) = signed(ts, at)?;
-    Ok((Term::Number(n), end))
-}
-
-// What is added to a variable, if anything is, and where that ends.
-fn offset(ts: &[Token], at: usize) -> Result<(Option<Number>, usize), Flaw>
-    ensures { Tells IsSum (words ts.now) result (read_sum (drop at (words ts.now))) }
-{
-    if let Some(next) = skip(ts, at, Sign::Plus) {
-        let (n, end) = number(ts, next)?;
-        return Ok((Some(Number::positive(n)), end));
-    }
-    if let Some(next) = skip(ts, at, Sign::Minus) {
-        let (n, end) = number(ts, next)?;
-        return Ok((Some(Number::negative(n)), end));
-    }
-    Ok((None, at))
+    Ok(Term::Number(cursor.signed()?))
 }
 
 // A variable with what is added to it.
@@ -67,27 +69,79 @@ fn summed(v: Variable, offset: Option<Number>) -> Term
     }
 }
 
-// The right side of a comparison, and where it ends.
-pub fn right(ts: &[Token], at: usize, scope: Scope) -> Result<(Term, usize), Flaw>
-    ensures { Tells (IsRight (scope_variables scope.entry)) (words ts.now) result (read_right (scoped scope.entry) (drop at (words ts.now))) }
+// The right side of a comparison.
+pub fn right(cursor: &mut Cursor, scope: &mut Scope) -> Result<Term, Flaw>
+    ensures same { cursor.new.tokens ≡ cursor.old.tokens }
+    ensures told { Tells (Grown term right_term same (scoped scope.old) (scoped scope.new)) result cursor.new (read_right (scoped scope.old) (rest cursor.old)) }
 {
-    if !variable_ahead(ts, at) {
-        let (n, end) = signed(ts, at)?;
-        return Ok((Term::Number(n), end));
+    if !cursor.variable_ahead() {
+        return Ok(Term::Number(cursor.signed()?));
     }
-    let (v, behind) = variable(ts, at, scope)?;
-    let (more, end) = offset(ts, behind)?;
-    Ok((summed(v, more), end))
+    let v = scope.variable(cursor)?;
+    Ok(summed(v, cursor.offset()?))
 }
 
-// An argument of a fact in a body or goal, and where it ends.
-pub fn argument(ts: &[Token], at: usize, scope: Scope) -> Result<(Term, usize), Flaw>
-    ensures { Tells (IsArgument (scope_variables scope.entry)) (words ts.now) result (read_argument (scoped scope.entry) (drop at (words ts.now))) }
-{
-    if let Some(next) = skip(ts, at, Sign::Hash) {
-        let (cell, end) = cell_number(ts, next)?;
-        return Ok((Term::Cell(cell), end));
+// What knows the variables, and with them how a fact's arguments are read.
+pub trait Arguments: Variables {
+    ghost Argument: { Type 0 };
+
+    ghost argument_value: { List (List ℕ) → Argument → PlainTerm };
+
+    ghost next_argument: { GrammarScope → Argument → GrammarScope };
+
+    ghost argument_reader: { GrammarScope → Reader Argument };
+
+    ghost next_fact: { GrammarScope → tree.Fact Argument → GrammarScope };
+
+    // An argument of a fact.
+    fn argument(&mut self, cursor: &mut Cursor) -> Result<Term, Flaw>
+        ensures same { cursor.new.tokens ≡ cursor.old.tokens }
+        ensures told { Tells (Grown term argument_value next_argument (Self.holds self.old) (Self.holds self.new)) result cursor.new (argument_reader (Self.holds self.old) (rest cursor.old)) };
+
+    ghost keeps: { Keeps next_argument };
+
+    ghost fact_grows: { FactGrows next_argument next_fact };
+}
+
+impl Arguments for Names {
+    ghost Argument = { tree.Left };
+
+    ghost argument_value = { left_term };
+
+    ghost next_argument = { next_left };
+
+    ghost argument_reader = { read_left };
+
+    ghost next_fact = { next_head };
+
+    ghost keeps = { left_keeps };
+
+    ghost fact_grows = { head_grows };
+
+    fn argument(&mut self, cursor: &mut Cursor) -> Result<Term, Flaw> {
+        left(cursor, self)
     }
-    let (term, end) = right(ts, at, scope)?;
-    Ok((term, end))
+}
+
+impl<'a> Arguments for Scope<'a> {
+    ghost Argument = { tree.Argument };
+
+    ghost argument_value = { argument_term };
+
+    ghost next_argument = { same };
+
+    ghost argument_reader = { read_argument };
+
+    ghost next_fact = { same };
+
+    ghost keeps = { same_keeps };
+
+    ghost fact_grows = { adding_grows };
+
+    fn argument(&mut self, cursor: &mut Cursor) -> Result<Term, Flaw> {
+        if cursor.skip(Sign::Hash) {
+            return Ok(Term::Cell(cursor.cell_number()?));
+        }
+        right(cursor, self)
+    }
 }

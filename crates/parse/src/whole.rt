@@ -5,46 +5,51 @@ ghost use Rattle.parse.specs.Tokens.{words};
 ghost use Rattle.parse.specs.Whole.{BookTold, GoalTold};
 
 use crate::bodies::content;
+use crate::cursor::Cursor;
 use crate::flaw::Flaw;
-use crate::leaf::expect;
 use crate::rules::rule;
 use crate::scope::Scope;
-use crate::starts::{Part, one_too_many};
 use crate::token::{Sign, Token};
 use crate::tree::{Item, Mention, Rule};
 use std::alloc::Global;
+
+// A book has at most so many rules.
+const MOST_RULES: usize = 32;
 
 // The rules that the words of a book say.
 pub fn rules(heap: Global, ts: &[Token]) -> Result<Vec<Rule>, Flaw>
     ensures { BookTold (words ts.now) result (read_book (words ts.now)) }
 {
-    let mut labels = Vec::new(heap);
+    let mut cursor = Cursor {
+        heap,
+        tokens: ts,
+        at: 0,
+    };
     let mut list = Vec::new(heap);
-    let mut at = 0;
-    for _turn in 0..32u8 {
-        if at >= ts.len() {
-            return Ok(list);
+    while !cursor.ended() {
+        if list.len() >= MOST_RULES {
+            return Err(cursor.one_too_many::<Rule>());
         }
-        let (rule, end) = rule(heap, ts, at, &labels)?;
-        labels.push(rule.label)?;
+        let rule = rule(&mut cursor, &list)?;
         list.push(rule)?;
-        at = end;
     }
-    if at >= ts.len() {
-        return Ok(list);
-    }
-    Err(one_too_many(ts, at, Part::Rule))
+    Ok(list)
 }
 
 // The items that the words of a goal say.
 pub fn goal(heap: Global, ts: &[Token]) -> Result<Vec<Item<Mention>>, Flaw>
     ensures { GoalTold (words ts.now) result (read_goal (words ts.now)) }
 {
-    let next = expect(ts, 0, Sign::Ask)?;
-    let (items, last) = content(heap, ts, next, Scope::closed(), 16)?;
-    let end = expect(ts, last, Sign::Dot)?;
-    if end < ts.len() {
-        return Err(Flaw::Barred(end));
+    let mut cursor = Cursor {
+        heap,
+        tokens: ts,
+        at: 0,
+    };
+    cursor.expect(Sign::Ask)?;
+    let items = content(&mut cursor, Scope::closed(), 16)?;
+    cursor.expect(Sign::Dot)?;
+    if !cursor.ended() {
+        return Err(Flaw::Barred(cursor.at));
     }
     Ok(items)
 }

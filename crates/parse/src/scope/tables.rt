@@ -15,12 +15,7 @@ use words::name::spelling::same_name;
 pub fn position(names: &[Name], name: &Name) -> Option<usize>
     ensures { Found (spelled names.now) (name_bytes name.now) result }
 {
-    for (i, other) in names.iter().enumerate() {
-        if same_name(other, name) {
-            return Some(i);
-        }
-    }
-    None
+    names.iter().position(|other| same_name(other, name))
 }
 
 impl<'a> Scope<'a> {
@@ -37,10 +32,8 @@ impl Names {
     pub fn find(&self, name: &Name) -> Option<Variable>
         ensures { Known (variables self.now) (name_bytes name.now) result }
     {
-        match position(&self.list, name) {
-            Some(i) => Some(Variable { index: i as u8 }),
-            None => None,
-        }
+        let i = position(&self.list, name)?;
+        Some(Variable { index: i as u8 })
     }
 
     // Whether there is no room for another.

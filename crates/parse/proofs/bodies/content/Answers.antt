@@ -1,24 +1,21 @@
-use Rattle.std.proofs.Common.{map, drop, sym, ap}
-use Rattle.parse.specs.Tokens.{words}
-use Rattle.parse.specs.Scopes.{scope, scope_variables}
-use Rattle.parse.proofs.Faults.{exit}
+use Rattle.std.proofs.Common.{ap, ◌∙◌}
 use Rattle.syntax.specs.Tree as tree
-use Rattle.syntax.specs.Readers.{read_items}
-use Rattle.parse.specs.Model.{item}
-use Rattle.parse.specs.Flat.{IsContent}
-use Rattle.parse.proofs.Chains.{content_true, content_led, content_items}
+use Rattle.syntax.specs.Readers.{read_items, read_content}
+use Rattle.parse.specs.Cursors.{rest}
+use Rattle.parse.specs.Flat.{item_of}
+use Rattle.parse.specs.Scopes.{scope}
+use Rattle.parse.proofs.Scoped.{row_here}
+use Rattle.parse.proofs.Faults.{retold, faulted_same}
+use Rattle.parse.proofs.Chains.{content_led, content_items}
 use Rattle.parse.proofs.bodies.content.Goals as goal
 
-pub returns-in-Some : goal.returns-in-Some
-returns-in-Some c =
-    let s = c.in-Some.ensures in
-    (tree.nil, ap (map item) (sym c.new.ensures.items), content_true (read_items c.args.most (scope c.args.scope)) (drop c.args.at (words c.args.ts.now)) s.0 s.1)
-
-pub returns-in_err-list : goal.returns-in_err-list
-returns-in_err-list c =
-    exit (IsContent (scope_variables c.args.scope)) c.from_residual.result c.from_residual.ensures.1 (content_led (read_items c.args.most (scope c.args.scope)) (drop c.args.at (words c.args.ts.now)) c.in_default.ensures c.in_err-list.ensures)
-
-pub returns : goal.returns
-returns c =
-    let k = c.in_ok-list.ensures in
-    (tree.items k.0, k.1, content_items (read_items c.args.most (scope c.args.scope)) (drop c.args.at (words c.args.ts.now)) c.in_default.ensures k.2)
+pub returns-clause-told : goal.returns-clause-told
+unfolding read_items
+returns-clause-told c =
+    let s = c.if-skip.ensures.told in
+    let read = read_items c.args.most (scope c.args.scope) in
+    let same = ap (read_content c.args.most (scope c.args.scope)) s.0 in
+    retold c.parts.new.cursor c.parts.result
+    (λ x y i e. (tree.items y, row_here item_of c.args.scope c.parts.new.scope y i.0 i.1, same ∙ content_items read (rest c.skip.new.self) s.1 e))
+    (λ f h. faulted_same same (content_led read (rest c.skip.new.self) s.1 h))
+    c.parts.ensures.told

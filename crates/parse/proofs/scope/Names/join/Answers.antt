@@ -3,16 +3,11 @@ use Rattle.words.specs.Names.{name_bytes}
 use Rattle.std.proofs.lemmas.List.{map_push}
 use Rattle.parse.specs.Flat.{spelled}
 use Rattle.parse.specs.Scopes.{variables}
-use Rattle.parse.proofs.Variables.{variables_length, joins_known, joins_new, binding_over}
+use Rattle.parse.proofs.Ahead.{variables_length, joins_known, joins_new}
 use Rattle.parse.proofs.scope.Names.join.Goals as goal
 
 pub returns-in-Some : goal.returns-in-Some
 returns-in-Some c = let f = c.in-Some.ensures in joins_known (variables c.args.self.now) (name_bytes c.args.name) c.in-Some.known.index f.0 f.1
-
-pub returns-then-count-ge6 : goal.returns-then-count-ge6
-returns-then-count-ge6 c =
-    let e = variables_length c.args.self.now in
-    binding_over (variables c.args.self.now) (name_bytes c.args.name) c.in_default.ensures (omega (arith, e))
 
 pub returns : goal.returns
 returns c =
