@@ -50,50 +50,35 @@ impl<'a> Cursor<'a> {
     pub fn word(&self) -> Result<Token, Flaw>
         ensures { Stands result self.now }
     {
-        match self.look() {
-            Some(t) => Ok(t),
-            None => Err(Flaw::Barred(self.at)),
-        }
+        self.look().ok_or(Flaw::Barred(self.at))
     }
 
     pub fn name_ahead(&self) -> bool
         ensures { result ≡ ahead (name_kind ∷ []) (rest self.now) }
     {
-        match self.look() {
-            Some(t) => matches!(t.lexeme, Lexeme::Name(_)),
-            None => false,
-        }
+        self.look()
+            .is_some_and(|t| matches!(t.lexeme, Lexeme::Name(_)))
     }
 
     pub fn variable_ahead(&self) -> bool
         ensures { result ≡ ahead (variable_kind ∷ []) (rest self.now) }
     {
-        match self.look() {
-            Some(t) => matches!(t.lexeme, Lexeme::Variable(_)),
-            None => false,
-        }
+        self.look()
+            .is_some_and(|t| matches!(t.lexeme, Lexeme::Variable(_)))
     }
 
     pub fn weight_ahead(&self) -> bool
         ensures { result ≡ ahead (weight_kind ∷ []) (rest self.now) }
     {
-        match self.look() {
-            Some(t) => matches!(t.lexeme, Lexeme::Weight(_)),
-            None => false,
-        }
+        self.look()
+            .is_some_and(|t| matches!(t.lexeme, Lexeme::Weight(_)))
     }
 
     pub fn mark_ahead(&self, mark: Sign) -> bool
         ensures value { result ≡ ahead (kind (sign (sign_code mark)) ∷ []) (rest self.now) }
         ensures inside { result ≡ true → self.now.at < length self.now.tokens.now }
     {
-        match self.look() {
-            Some(t) => match t.lexeme {
-                Lexeme::Sign(sign) => sign == mark,
-                _ => false,
-            },
-            None => false,
-        }
+        matches!(self.look(), Some(Token { lexeme: Lexeme::Sign(sign), .. }) if sign == mark)
     }
 
     // Takes a mark, where it stands.
@@ -113,10 +98,9 @@ impl<'a> Cursor<'a> {
         ensures same { self.new.tokens ≡ self.old.tokens }
         ensures told { Passes result self.new (marked (sign_code mark) (rest self.old)) }
     {
-        if !self.mark_ahead(mark) {
+        if !self.skip(mark) {
             return Err(Flaw::Barred(self.at));
         }
-        self.at += 1;
         Ok(())
     }
 
