@@ -1,7 +1,8 @@
 -- What a contract sees of a bounded list: its items, and that there are not too many. Assumes nothing.
 use Rattle.std.specs.Prelude.{◌≡◌, ℕ, ◌≤◌, List, length, take}
 use Rattle.std.specs.Coded.{Coded, code_by, coded_list, le_prop}
-use Rattle.std.proofs.Common.{arith, take_all}
+use Rattle.std.proofs.Common.{sym, subst, take_all}
+use Rattle.std.proofs.Math.Nat.{min-le_left}
 use Rattle.std.proofs.lemmas.List.{length-take}
 use mathlib.Core.HLevel.{is_prop→PathP}
 
@@ -16,7 +17,7 @@ module _ {T : Type 0} {most : ℕ} where
   same_items a b e = λ i. record { items = e i; few = is_prop→PathP (λ j. length (e j) ≤ most) (λ j. le_prop) a.few b.few i }
 
   pub length-first : (xs : List T) → length (take most xs) ≤ most
-  length-first xs = omega (arith, length-take most xs)
+  length-first xs = subst (λ n. n ≤ most) (sym (length-take most xs)) (min-le_left most (length xs))
 
   -- the first items of any list, as many as may be
   abbrev pub first_items : List T → AtMost T most
