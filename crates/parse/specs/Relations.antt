@@ -1,5 +1,6 @@
 -- Relations of the code as the grammar reads them. Assumes nothing.
-use Rattle.std.specs.Prelude.{◌≡◌, ℕ, List, [], ◌∷◌, Some, None, Ok, Err, Result, MatchOption, MatchResult, refl}
+use Rattle.std.specs.Prelude.{◌≡◌, ℕ, List, [], ◌∷◌, Some, None, Ok, Err, Option, Result, MatchResult, refl}
+use Rattle.std.proofs.Common.{subst}
 use Rattle.cells.specs.declared.relations.Relation.{Relation}
 use Rattle.cells.specs.declared.relations.Telling.{Telling}
 use Rattle.syntax.specs.Syntax.{W, sign, Reader, ok, barred}
@@ -41,6 +42,21 @@ pub record IsReader {T X E : Type 0} (gives : Sign → Result T E → Type 0) (p
   pub none : (m : Sign) (e : E) (r : List W) → gives m (Err e) → reader (sign (sign_code m) ∷ r) ≡ barred (sign (sign_code m) ∷ r)
   pub some : (m : Sign) (x : T) (r : List W) → gives m (Ok x) → (y : X) × (plain y ≡ x) × (reader (sign (sign_code m) ∷ r) ≡ ok y r)
 
+-- what the grammar's reader makes of a mark that stands for a relation, or for none
+abbrev pub WordTold : {T X : Type 0} → (X → T) → Reader X → Sign → List W → Option T → Type 0
+WordTold {X = X} plain reader m r None = reader (sign (sign_code m) ∷ r) ≡ barred (sign (sign_code m) ∷ r)
+WordTold {X = X} plain reader m r (Some x) = (y : X) × (plain y ≡ x) × (reader (sign (sign_code m) ∷ r) ≡ ok y r)
+
+-- a reader of one word of some marks
+module _ {T X E : Type 0} (of : Sign → Option T) (plain : X → T) (reader : Reader X) where
+  pub is_reader : reader [] ≡ barred [] → ((p : ℕ) (x : Lexeme) (r : List W) → IsNoSign x → reader (lexeme_word p x ∷ r) ≡ barred (lexeme_word p x ∷ r)) → ((m : Sign) (r : List W) → WordTold plain reader m r (of m)) → IsReader {E = E} (λ m r. MatchResult r (λ x. of m ≡ Some x) (λ _. of m ≡ None)) plain reader
+  is_reader ended other word = record {
+    ended = ended;
+    other = other;
+    none = λ m e r h. subst (WordTold plain reader m r) h (word m r);
+    some = λ m x r h. subst (WordTold plain reader m r) h (word m r);
+  }
+
 relation_other : (p : ℕ) (x : Lexeme) (r : List W) → IsNoSign x → read_relation (lexeme_word p x ∷ r) ≡ barred (lexeme_word p x ∷ r)
 relation_other p (lexeme.Name n) r h = refl
 relation_other p (lexeme.Variable n) r h = refl
@@ -48,7 +64,7 @@ relation_other p (lexeme.Number n) r h = refl
 relation_other p (lexeme.Weight n) r h = refl
 relation_other p (lexeme.Sign s) r h = absurd h
 
-relation_word : (m : Sign) (r : List W) → MatchOption (sign_relation m) (read_relation (sign (sign_code m) ∷ r) ≡ barred (sign (sign_code m) ∷ r)) (λ x. (y : tree.Relation) × (tree_relation y ≡ x) × (read_relation (sign (sign_code m) ∷ r) ≡ ok y r))
+relation_word : (m : Sign) (r : List W) → WordTold tree_relation read_relation m r (sign_relation m)
 relation_word is.At r = refl
 relation_word is.Comma r = refl
 relation_word is.Dot r = refl
@@ -76,12 +92,7 @@ relation_word is.True r = refl
 relation_word is.Fail r = refl
 
 pub relation_reader : IsReader {E = NoRelation} (λ m r. MatchResult r (λ x. sign_relation m ≡ Some x) (λ _. sign_relation m ≡ None)) tree_relation read_relation
-relation_reader = record {
-  ended = refl;
-  other = relation_other;
-  none = λ m e r h. rw h at (relation_word m r);
-  some = λ m x r h. rw h at (relation_word m r);
-}
+relation_reader = is_reader sign_relation tree_relation read_relation refl relation_other relation_word
 
 telling_other : (p : ℕ) (x : Lexeme) (r : List W) → IsNoSign x → read_telling (lexeme_word p x ∷ r) ≡ barred (lexeme_word p x ∷ r)
 telling_other p (lexeme.Name n) r h = refl
@@ -90,7 +101,7 @@ telling_other p (lexeme.Number n) r h = refl
 telling_other p (lexeme.Weight n) r h = refl
 telling_other p (lexeme.Sign s) r h = absurd h
 
-telling_word : (m : Sign) (r : List W) → MatchOption (sign_telling m) (read_telling (sign (sign_code m) ∷ r) ≡ barred (sign (sign_code m) ∷ r)) (λ x. (y : tree.Telling) × (tree_telling y ≡ x) × (read_telling (sign (sign_code m) ∷ r) ≡ ok y r))
+telling_word : (m : Sign) (r : List W) → WordTold tree_telling read_telling m r (sign_telling m)
 telling_word is.At r = refl
 telling_word is.Comma r = refl
 telling_word is.Dot r = refl
@@ -118,9 +129,4 @@ telling_word is.True r = refl
 telling_word is.Fail r = refl
 
 pub telling_reader : IsReader {E = NoRelation} (λ m r. MatchResult r (λ x. sign_telling m ≡ Some x) (λ _. sign_telling m ≡ None)) tree_telling read_telling
-telling_reader = record {
-  ended = refl;
-  other = telling_other;
-  none = λ m e r h. rw h at (telling_word m r);
-  some = λ m x r h. rw h at (telling_word m r);
-}
+telling_reader = is_reader sign_telling tree_telling read_telling refl telling_other telling_word
