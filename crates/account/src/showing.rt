@@ -55,7 +55,7 @@ fn places(page: &mut Page, rules: &[Rule], predicate: &Predicate) -> Result<(), 
 }
 
 fn predicates(page: &mut Page, book: &Book) -> Result<(), AllocError> {
-    for (number, predicate) in book.predicates.list.iter().enumerate() {
+    for (number, predicate) in book.predicates.list.as_slice().iter().enumerate() {
         write!(page, "predicate {number} ")?;
         page.name(&predicate.name)?;
         write!(page, "/{}:", predicate.arity)?;

@@ -73,8 +73,8 @@ module _ (ps : List Predicate) (f : Mention) where
   pub noted_over : has ps (predicate_of f) ≡ false → 32 ≤ length ps → noted ps f ≡ excess f.place
   noted_over h k = cond-false (has ps (predicate_of f)) _ _ h ∙ cond-false (ltb (length ps) 32) _ _ (le-ltb (length ps) 32 k)
 
-pub predicates_length : (ps : Predicates) → length (predicates ps) ≡ vec_len ps.list
-predicates_length ps = rw length-map (sym ps.list.ok.0)
+pub predicates_length : (ps : Predicates) → length (predicates ps) ≡ length ps.list.items
+predicates_length ps = rw length-map refl
 
 -- a row of facts, one at a time
 module _ {T : Type 0} (view : T → Mention) (fs : List T) where

@@ -1,6 +1,5 @@
 // Predicates: a name with its count of arguments.
-ghost use Rattle.std.specs.Prelude.{◌≤◌, vec_len};
-
+use bounded::Bounded;
 use words::name::Name;
 
 pub mod numbering;
@@ -11,9 +10,11 @@ pub struct Predicate {
     pub arity: u8,
 }
 
-// At most 32, numbered from 0 as they first appear.
+// A book has at most so many predicates.
+pub const MOST_PREDICATES: usize = 32;
+
+// Numbered from 0 as they first appear.
 #[derive(Drop)]
 pub struct Predicates {
-    pub list: Vec<Predicate>,
-    ghost few: { vec_len list ≤ 32 },
+    pub list: Bounded<Predicate, MOST_PREDICATES>,
 }

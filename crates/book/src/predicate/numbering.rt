@@ -5,11 +5,9 @@ ghost use Rattle.book.specs.Predicates.{coded, predicates_agree, predicates, pre
 
 use crate::faults::{BookFault, GrammarFault};
 use crate::predicate::{Predicate, Predicates};
+use bounded::Bounded;
 use parse::tree::Mention;
 use std::alloc::Global;
-
-// A book has at most so many predicates.
-const MOST_PREDICATES: usize = 32;
 
 impl Predicate {
     // The predicate of a fact: its name, and how many arguments it has.
@@ -35,7 +33,7 @@ impl Predicates {
     pub fn number(&self, predicate: &Predicate) -> Option<usize>
         ensures { Numbered (predicates self.now) (coded predicate.now) result }
     {
-        position(&self.list, predicate)
+        position(self.list.as_slice(), predicate)
     }
 
     // Whether a fact's predicate is among these.
@@ -64,11 +62,10 @@ impl Predicates {
         if self.knows(fact) {
             return Ok(());
         }
-        if self.list.len() >= MOST_PREDICATES {
-            return Err(BookFault::Grammar(GrammarFault::TooMany(fact.place)));
+        match self.list.push(Predicate::of(fact)) {
+            Ok(()) => Ok(()),
+            Err(_) => Err(BookFault::Grammar(GrammarFault::TooMany(fact.place))),
         }
-        self.list.push(Predicate::of(fact))?;
-        Ok(())
     }
 
     // The predicates of some facts, numbered as they first appear.
@@ -76,7 +73,7 @@ impl Predicates {
         ensures { Listed result (listing [] (map mention facts.now)) }
     {
         let mut all = Predicates {
-            list: Vec::new(heap),
+            list: Bounded::new(heap)?,
         };
         for fact in facts {
             all.note(fact)?;
