@@ -7,7 +7,8 @@ use std::alloc::AllocError;
 use std::fmt::Display;
 use words::name::Name;
 
-// A page, and the names of the variables that are written on it.
+// A page, and the names of the variables that are written on it. A name may be of any bytes, which no text prints: so what holds names is
+// written to the page, and the rest printed.
 #[derive(Drop)]
 pub struct Named<'a> {
     pub page: &'a mut Page,

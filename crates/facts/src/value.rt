@@ -15,7 +15,7 @@ pub enum Value {
 }
 
 impl Value {
-    // Whether two values are equal: a cell equals only itself, and never a number.
+    // Whether two values are equal: a cell equals only itself, and never a number. Named, to say so of `==`.
     pub fn same(self, other: Value) -> bool
         ensures { result ≡ same_value (value self) (value other) }
     {

@@ -75,7 +75,7 @@ fn starts_at(list: &[Token], at: usize, guard: bool) -> bool
     starts_after(list[at - 1], guard)
 }
 
-// Both rules, from the last word to the first.
+// Both rules, from the last word to the first. By index, since the word before is read while a word is written.
 pub fn mark(list: &mut [Token])
     ensures words { words list.new ≡ marked (words list.old) }
     ensures places { places list.new ≡ places list.old }
