@@ -2,7 +2,6 @@ pub mod Claims
 pub mod Endings
 pub mod Examples
 pub mod Faults
-pub mod Grown
 pub mod Mentions
 pub mod Predicates
 pub mod Reading
