@@ -14,7 +14,7 @@ fn title(page: &mut Page, rule: &Rule) -> Result<(), AllocError> {
     page.name(&rule.label)?;
     write!(page, ": {} variables (", rule.variables.list.len())?;
     let mut before = "";
-    for name in rule.variables.list.iter() {
+    for name in rule.variables.list.as_slice() {
         page.text(before)?;
         page.name(name)?;
         before = " ";
@@ -26,7 +26,7 @@ fn show_rule(page: &mut Page, rule: &Rule) -> Result<(), AllocError> {
     title(page, rule)?;
     let mut named = Named {
         page,
-        names: &rule.variables.list,
+        names: rule.variables.list.as_slice(),
     };
     named.heads("  kept ", rule.kept)?;
     named.heads("  removed ", rule.removed)?;

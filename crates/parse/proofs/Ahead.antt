@@ -72,18 +72,8 @@ joins_new vs us v n h k s e =
     (binding_new vs v h (subst (λ m. m < 6) s k), e ∙ sym (joined_new vs v h), λ more. ap (λ l. index_of (l ++ more) v) e ∙ index_new vs more v h ∙ sym s)
 
 -- a table's length is that of its names
-pub variables_length : (ns : Names) → length (variables ns) ≡ vec_len ns.list
-variables_length ns = rw length-map (sym ns.list.ok.0)
-
-pub full_is : (ns : Names) (n : ℕ) → n ≡ vec_len ns.list → leb 6 n ≡ not (ltb (length (variables ns)) 6)
-full_is ns n e = rw (variables_length ns, ← e) (go (ltb n 6) refl)
-  where
-    go : (t : Bool) → ltb n 6 ≡ t → leb 6 n ≡ not t
-    go true h = let k = ltb-true n 6 h in lt-leb 6 n k
-    go false h = le-leb 6 n (ltb-false n 6 h)
-
-pub below_six : (ns : Names) (i : ℕ) → i < length (variables ns) → i < 6
-below_six ns i h = let e = variables_length ns in let k = ns.few in omega arith
+pub variables_length : (ns : Names) → length (variables ns) ≡ length ns.list.items
+variables_length ns = rw length-map refl
 
 -- a variable that a rule's scope knows
 pub variable_known : (s : Scope') (ns : Bor Names) → s ≡ Rule ns → (l r : List W) (v : List ℕ) (i : ℕ) → l ≡ var v ∷ r → among (variables ns.now) v ≡ true → index_of (variables ns.now) v ≡ i → (x : List ℕ) × ((joins (scope s) x ≡ scope s) × ((us : List (List ℕ)) → Numbers (scope s) us → index_of us x ≡ i)) × (read_variable (scope s) l ≡ ok x r)

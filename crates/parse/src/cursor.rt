@@ -78,7 +78,8 @@ impl<'a> Cursor<'a> {
         ensures value { result ≡ ahead (kind (sign (sign_code mark)) ∷ []) (rest self.now) }
         ensures inside { result ≡ true → self.now.at < length self.now.tokens.now }
     {
-        matches!(self.look(), Some(Token { lexeme: Lexeme::Sign(sign), .. }) if sign == mark)
+        self.look()
+            .is_some_and(|t| matches!(t.lexeme, Lexeme::Sign(sign) if sign == mark))
     }
 
     // Takes a mark, where it stands.

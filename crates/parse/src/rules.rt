@@ -55,9 +55,7 @@ pub fn rule(cursor: &mut Cursor, rules: &[Rule]) -> Result<Rule, Flaw>
 {
     let label = cursor.label(rules)?;
     cursor.expect(Sign::At)?;
-    let mut names = Names {
-        list: Vec::new(cursor.heap),
-    };
+    let mut names = Names::new(cursor.heap)?;
     let first = parts(cursor, &mut names, Sign::Comma, 3)?;
     let Arrow {
         kept,

@@ -1,6 +1,5 @@
 // The variables of a rule, numbered by their first appearance.
-ghost use Rattle.std.specs.Prelude.{◌≤◌, vec_len};
-
+use bounded::Bounded;
 use words::name::Name;
 
 pub mod tables;
@@ -8,8 +7,7 @@ pub mod tables;
 // At most six names.
 #[derive(Drop)]
 pub struct Names {
-    pub list: Vec<Name>,
-    ghost few: { vec_len list ≤ 6 },
+    pub list: Bounded<Name, 6>,
 }
 
 // Which variables may stand: those of the rule's heads, or none, in a goal.

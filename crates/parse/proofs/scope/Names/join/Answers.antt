@@ -1,4 +1,5 @@
-use Rattle.std.proofs.Common.{vec_items, sym, ap, ◌∙◌, arith}
+use Rattle.std.proofs.Common.{◌≡◌, ◌<◌, [], ◌∷◌, ◌++◌, length, sym, ap, ◌∙◌, arith}
+use Rattle.std.proofs.lemmas.Grind.{common_steps}
 use Rattle.words.specs.Names.{name_bytes}
 use Rattle.std.proofs.lemmas.List.{map_push}
 use Rattle.parse.specs.Flat.{spelled}
@@ -11,5 +12,10 @@ returns-in-Some c = let f = c.in-Some.ensures in joins_known (variables c.args.s
 
 pub returns : goal.returns
 returns c =
-    let e = variables_length c.args.self.now in
-    joins_new (variables c.args.self.now) _ (name_bytes c.args.name) c.len-count.result c.in_default.ensures (omega (arith, c.if-count-ge6.false)) (c.len-count.ensures ∙ sym e) (ap spelled c.in_ok-push.ensures.items ∙ map_push name_bytes (vec_items c.args.self.now.list) c.args.name)
+    let now = c.args.self.now in
+    let names = now.list.items in
+    let e = variables_length now in
+    let is = c.in_ok-ok.was in
+    let few : length names < 6 = grind (arith, common_steps) in
+    let grown : c.push.new.self.items ≡ names ++ c.args.name ∷ [] = grind (arith, common_steps) in
+    joins_new (variables now) _ (name_bytes c.args.name) c.len-count.result c.in_default.ensures (omega (arith, few, c.len-count.ensures)) (c.len-count.ensures ∙ sym e) (ap spelled grown ∙ map_push name_bytes names c.args.name)
