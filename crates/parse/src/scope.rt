@@ -10,7 +10,8 @@ pub struct Names {
     pub list: Bounded<Name, 6>,
 }
 
-// Which variables may stand: those of the rule's heads, or none, in a goal.
+// Which variables may stand: those of the rule's heads, or none, in a goal. Two scopes, in which a variable is another fault, and not a
+// scope that may be missing: so no Option.
 #[derive(Clone, Copy)]
 pub enum Scope<'a> {
     Rule(&'a Names),
