@@ -1,5 +1,6 @@
 -- The numbers and terms of a book as plain values. Assumes nothing.
-use Rattle.std.specs.Prelude.{ℕ, List, map, ℤ, vec_items}
+use Rattle.std.specs.Prelude.{ℕ, List, map, ℤ, vec_items, Vec}
+use Rattle.std.specs.declared.alloc.Global.{Global}
 use Rattle.words.specs.Names.{name_bytes}
 use Rattle.cells.specs.declared.relations.Relation.{Relation}
 use Rattle.cells.specs.declared.relations.Telling.{Telling}
@@ -82,5 +83,5 @@ item (code-item.Add f) = add (mention f)
 item (code-item.Tell c) = tell (telling c)
 item code-item.Fail = fail
 
-abbrev pub alternative : CodeAlternative → Alternative
+abbrev pub alternative : CodeAlternative (Vec (CodeItem CodeMention) Global) → Alternative
 alternative a = record { weight = a.weight.value; items = map item (vec_items a.items) }

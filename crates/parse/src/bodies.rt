@@ -55,7 +55,7 @@ pub fn content(cursor: &mut Cursor, mut scope: Scope, most: u8) -> Result<Vec<It
     parts(cursor, &mut scope, Sign::Comma, most)
 }
 
-impl<'a> Part<Scope<'a>> for Alternative {
+impl<'a> Part<Scope<'a>> for Alternative<Vec<Item<Mention>>> {
     ghost Tree = { tree.Alternative };
 
     ghost Value = { PlainAlternative };
@@ -70,7 +70,7 @@ impl<'a> Part<Scope<'a>> for Alternative {
 
     ghost keeps = { same_keeps };
 
-    fn read(cursor: &mut Cursor, scope: &mut Scope<'a>) -> Result<Alternative, Flaw> {
+    fn read(cursor: &mut Cursor, scope: &mut Scope<'a>) -> Result<Self, Flaw> {
         if !cursor.weight_ahead() {
             let items = content(cursor, *scope, 8)?;
             return Ok(Alternative {
@@ -86,7 +86,10 @@ impl<'a> Part<Scope<'a>> for Alternative {
 }
 
 // One to eight alternatives.
-pub fn body(cursor: &mut Cursor, mut scope: Scope) -> Result<Vec<Alternative>, Flaw>
+pub fn body(
+    cursor: &mut Cursor,
+    mut scope: Scope,
+) -> Result<Vec<Alternative<Vec<Item<Mention>>>>, Flaw>
     ensures same { cursor.new.tokens ≡ cursor.old.tokens }
     ensures told { Tells (AreAs vec_items the-alternative (alternative_of (scope_variables scope.entry))) result cursor.new (read_body (scoped scope.entry) (rest cursor.old)) }
 {

@@ -59,7 +59,7 @@ impl<F> Begins for Item<F> {
     }
 }
 
-impl Begins for Alternative {
+impl<I> Begins for Alternative<I> {
     ghost first = { first_alternative };
 
     fn begins(lexeme: Lexeme) -> bool {

@@ -44,11 +44,11 @@ pub enum Item<F> {
     Fail,
 }
 
-// Items with a weight, which is 0 where none is written; `true` is no item.
-#[derive(Drop)]
-pub struct Alternative {
+// An alternative of a body: its weight, which is 0 where none is written, and its items; `true` is no item.
+#[derive(Clone, Copy, Debug, PartialEq, Eq, Drop)]
+pub struct Alternative<I> {
     pub weight: Weight,
-    pub items: Vec<Item<Mention>>,
+    pub items: I,
 }
 
 // What stands between the first heads and the body.
@@ -66,5 +66,5 @@ pub struct Rule {
     pub kept: Few<Mention>,
     pub removed: Few<Mention>,
     pub guard: Vec<Asking>,
-    pub body: Vec<Alternative>,
+    pub body: Vec<Alternative<Vec<Item<Mention>>>>,
 }

@@ -2,7 +2,7 @@
 use facts::fact::Fact;
 use parse::few::Few;
 use parse::number::Weight;
-use parse::tree::Term;
+use parse::tree::{self, Term};
 use words::name::Name;
 
 // Part of a table: so many rows, from a place on.
@@ -20,20 +20,14 @@ impl Span {
 // A fact as a rule or a goal writes it.
 pub type Pattern = Fact<Term>;
 
-// An alternative of a body: its weight, and where its items lie.
-#[derive(Clone, Copy, Debug, PartialEq, Eq)]
-pub struct Alternative {
-    pub weight: Weight,
-    pub items: Span,
-}
+// An alternative of a body, with the place of its items.
+pub type Alternative = tree::Alternative<Span>;
 
-impl Alternative {
-    // Without items.
-    pub const NONE: Alternative = Alternative {
-        weight: Weight { value: 0 },
-        items: Span::EMPTY,
-    };
-}
+// An alternative without items.
+pub const NO_ITEMS: Alternative = Alternative {
+    weight: Weight { value: 0 },
+    items: Span::EMPTY,
+};
 
 // A rule: its heads in the order written, of which the first so many are kept; where its guard and its alternatives lie.
 #[derive(Clone, Copy, Debug, PartialEq, Eq)]

@@ -8,7 +8,7 @@ ghost use Rattle.rulebook.specs.Tables.{rule_in, alternative_in, program};
 ghost use Rattle.rulebook.specs.Occurrences.{occurrence_if, Reached};
 
 use super::Book;
-use crate::rows::{Alternative, Occurrence, Pattern, Rule, Span};
+use crate::rows::{Alternative, NO_ITEMS, Occurrence, Pattern, Rule, Span};
 use facts::fact::PredicateNumber;
 use parse::tree::{Asking, Item};
 
@@ -58,7 +58,7 @@ impl Book {
         self.body(rule)
             .get(usize::from(number.saturating_sub(1)))
             .copied()
-            .unwrap_or(Alternative::NONE)
+            .unwrap_or(NO_ITEMS)
     }
 
     // The items of an alternative.

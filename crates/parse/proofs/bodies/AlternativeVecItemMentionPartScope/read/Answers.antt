@@ -6,7 +6,7 @@ use Rattle.parse.specs.Flat.{content_of}
 use Rattle.parse.specs.Scopes.{scope}
 use Rattle.parse.proofs.Scoped.{numbers_only}
 use Rattle.parse.proofs.Chains.{plain_all, weighted_all}
-use Rattle.parse.proofs.bodies.AlternativePartScope.read.Goals as goal
+use Rattle.parse.proofs.bodies.AlternativeVecItemMentionPartScope.read.Goals as goal
 
 pub returns-then-not-weight_ahead-clause-told : goal.returns-then-not-weight_ahead-clause-told
 returns-then-not-weight_ahead-clause-told c =
