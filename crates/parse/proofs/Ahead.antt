@@ -1,6 +1,6 @@
 -- Variables and rules' names, by the word ahead. Assumes nothing.
-use Rattle.std.proofs.Common.{◌≡◌, ℕ, suc, ◌<◌, ◌≤◌, Bool, true, false, cond, not, ◌||◌, eqb, ltb, leb, List, [], ◌∷◌, ◌++◌, length, Some, vec_len, sym, refl, ap, ◌∙◌, subst, arith, Bor}
-use Rattle.std.proofs.lemmas.Bool.{false≢true, cond-true, cond-false, lt-ltb, le-ltb, ltb-true, ltb-false, le-leb, lt-leb}
+use Rattle.std.proofs.Common.{◌≡◌, ℕ, suc, ◌<◌, ◌≤◌, Bool, true, false, cond, ◌||◌, eqb, ltb, List, [], ◌∷◌, ◌++◌, length, Some, sym, refl, ap, ◌∙◌, subst, Bor}
+use Rattle.std.proofs.lemmas.Bool.{false≢true, cond-true, cond-false, lt-ltb, le-ltb}
 use Rattle.std.proofs.lemmas.List.{length-map}
 use Rattle.syntax.specs.Syntax.{W, name, var, sign, kind, mem, fine, flaw, noted, ok}
 use Rattle.syntax.specs.Grammar.{Scope, binding, bound, var_note, among, joined, joins, same_name, label_name, true_name, fail_name}
