@@ -65,7 +65,10 @@ impl Named<'_> {
         }
     }
 
-    pub fn alternative(&mut self, alternative: &Alternative<Vec<Item<Mention>>>) -> Result<(), AllocError> {
+    pub fn alternative(
+        &mut self,
+        alternative: &Alternative<Vec<Item<Mention>>>,
+    ) -> Result<(), AllocError> {
         let weight = alternative.weight.value;
         write!(self.page, "  alternative {weight}: ")?;
         let Some((first, others)) = alternative.items.split_first() else {

@@ -25,7 +25,10 @@ fn add_items(out: &mut Vec<Mention>, items: &[Item<Mention>]) -> Result<(), Allo
     Ok(())
 }
 
-fn add_body(out: &mut Vec<Mention>, body: &[Alternative<Vec<Item<Mention>>>]) -> Result<(), AllocError>
+fn add_body(
+    out: &mut Vec<Mention>,
+    body: &[Alternative<Vec<Item<Mention>>>],
+) -> Result<(), AllocError>
     ensures { OnOk result (map mention out.new.items ≡ map mention out.old.items ++ in_body (map alternative body.now)) }
 {
     for alternative in body {

@@ -3,7 +3,6 @@ use Rattle.syntax.specs.Tree as tree
 use Rattle.syntax.specs.Grammar.{binding, behind}
 use Rattle.syntax.specs.Readers.{read_label, read_heads, read_arrow, read_body}
 use Rattle.parse.specs.Cursors.{rest}
-use Rattle.parse.specs.Flat.{spelled}
 use Rattle.parse.specs.Flaws.{IsAs}
 use Rattle.parse.specs.Rules.{labels, rule_view, rule_model, arrow_view}
 use Rattle.parse.specs.Scopes.{variables}
