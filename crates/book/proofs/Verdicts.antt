@@ -3,7 +3,6 @@ use Rattle.std.proofs.Common.{◌≡◌, ℕ, zero, suc, ◌+◌, ◌-◌, ◌<�
 use Rattle.std.proofs.lemmas.Result.{err_from_is_err_and}
 use Rattle.std.proofs.lemmas.Bool.{cond-true, cond-false, lt-ltb, le-ltb, le-leb, lt-leb}
 use Rattle.std.proofs.lemmas.List.{length-map}
-use Rattle.words.specs.declared.faults.LetterFault.TheVariants.{TextTooLong}
 use Rattle.syntax.specs.Syntax.{W, Out, ok, barred}
 use Rattle.syntax.specs.Marking.{marked}
 use Rattle.parse.specs.declared.token.Token.{Token}
@@ -21,7 +20,7 @@ use Rattle.parse.specs.Rules.{Rule, rule_view, rule_model}
 use Rattle.parse.specs.Whole.{BookTold, GoalTold}
 use Rattle.lexed.specs.declared.text.Tokens.{Tokens}
 use Rattle.parse.specs.Tokens.{words}
-use Rattle.lexed.specs.Texts.{Ending, places, text_words, raw_words, word_places}
+use Rattle.lexed.specs.Texts.{Ending, places, text_words, raw_words}
 use Rattle.book.specs.declared.faults.BookFault.{BookFault}
 use Rattle.book.specs.declared.faults.BookFault.TheVariants.{Grammar, Unbound, Reused, InGoal, Unknown, Memory}
 use Rattle.book.specs.declared.faults.GrammarFault.{GrammarFault}

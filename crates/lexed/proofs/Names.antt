@@ -1,5 +1,5 @@
 -- Words as they come from a text: `true` and `fail` are told from other names, and none is marked. Assumes nothing.
-use Rattle.std.proofs.Common.{◌≡◌, ℕ, zero, suc, cond, List, map, length, sym, refl, ap, ◌∙◌}
+use Rattle.std.proofs.Common.{◌≡◌, ℕ, zero, suc, cond, List, map, length, refl}
 use Rattle.std.proofs.lemmas.Bool.{cond_both}
 use Rattle.words.specs.declared.marks.Mark.{Mark}
 use Rattle.words.specs.declared.marks.Mark.TheVariants as mark

@@ -1,6 +1,6 @@
-use Rattle.std.proofs.Common.{◌≡◌, ◌<◌, ◌≤◌, map, length, vec_items, Some, Ok, sym, ap, ◌∙◌, subst, arith}
+use Rattle.std.proofs.Common.{map, length, vec_items, Ok, sym, ap, ◌∙◌, subst, arith}
 use Rattle.std.proofs.lemmas.List.{map_push}
-use Rattle.words.specs.Lex.{seen, word_at}
+use Rattle.words.specs.Lex.{seen}
 use Rattle.parse.specs.Raw.{placed}
 use Rattle.lexed.proofs.Turns.{Reading, starts, at_end, at_fault, at_word, moved}
 use Rattle.lexed.proofs.raw.collect.Goals as goal

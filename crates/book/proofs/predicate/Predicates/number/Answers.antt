@@ -1,4 +1,4 @@
-use Rattle.std.proofs.Common.{◌≡◌, ◌∙◌, map, sym, ap, subst}
+use Rattle.std.proofs.Common.{map, sym, subst}
 use Rattle.std.specs.List.{position}
 use Rattle.book.specs.Predicates.{Numbered, coded}
 use Rattle.book.proofs.Numbering.{agreeing, numbered_by}
