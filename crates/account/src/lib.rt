@@ -8,3 +8,5 @@ pub mod parting;
 pub mod reading;
 mod refusal;
 mod showing;
+#[cfg(test)]
+mod tests;

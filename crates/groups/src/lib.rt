@@ -15,6 +15,7 @@ pub use numbers::{NumberFault, Whole, read, width_of, write};
 #[cfg(test)]
 mod tests {
     use super::*;
+    use std::test::Fail;
 
     #[test]
     fn writes_and_reads(rt: HostRuntime) {
@@ -53,5 +54,16 @@ mod tests {
         assert_eq!(rt; Argument::try_from(63), Ok(Argument::Cell(31)));
         assert_eq!(rt; Argument::try_from(65), Err(NoArgument));
         assert_eq!(rt; Argument::try_from(2), Ok(Argument::Number(-1)));
+    }
+
+    #[test]
+    fn prints(rt: HostRuntime) -> Result<(), Fail> {
+        let short = format!(in rt.alloc(); "{}", NumberFault::Short(2))?;
+        let shape = format!(in rt.alloc(); "{}", NumberFault::Shape(7))?;
+        let none = format!(in rt.alloc(); "{}", NoArgument)?;
+        assert!(rt; short.as_str() == "the number at 2 is cut short");
+        assert!(rt; shape.as_str() == "the number at 7 is not in its shortest groups or too wide");
+        assert!(rt; none.as_str() == "no argument has this code");
+        Ok(())
     }
 }
