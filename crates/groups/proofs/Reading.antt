@@ -10,7 +10,8 @@ use Rattle.groups.specs.declared.numbers.NumberFault.TheVariants.{Short, Shape}
 use Rattle.groups.specs.Groups.{groups, value, high, Formed, last, more, Stands, written}
 use Rattle.groups.specs.Reading.{run, number_in, taken, read_at, read_as, fault_place}
 use Rattle.groups.specs.Laws.{Bytes, Cut, Outcome, whole, short, misshapen, ReadsExactly, AcceptsGroups, ComesBack, TooWide, Placed, Samples}
-use Rattle.groups.proofs.Shapes.{formed_groups, value_groups, only, length_formed}
+use Rattle.std.proofs.Math.Nat.{pow-le-pow_right}
+use Rattle.groups.proofs.Shapes.{formed_groups, value_groups, only, length_formed, mono_groups}
 use Rattle.groups.proofs.Writing.{stands_written}
 
 run_high : (x : ℕ) (xs : List ℕ) → 128 ≤ x → prefix_len high (x ∷ xs) ≡ 1 + prefix_len high xs
@@ -68,6 +69,24 @@ taken_wide gs at bits wide = grind (arith, nat_tests)
 pub taken_long : (gs : List ℕ) (at bits : ℕ) → (length (groups (value gs)) ≡ length gs → ⊥) → taken gs at bits ≡ Err (Shape at)
 unfolding taken
 taken_long gs at bits long = grind (arith, nat_tests)
+
+-- too large a number is in no groups, and neither is one in more groups than it has
+in_wide : (gs : List ℕ) (bits : ℕ) → 2 ^ bits ≤ value gs → None ≡ number_in gs bits
+in_wide gs bits wide = grind (arith, nat_tests)
+
+in_long : (gs : List ℕ) (bits : ℕ) → (length (groups (value gs)) ≡ length gs → ⊥) → None ≡ number_in gs bits
+in_long gs bits long = grind (arith, nat_tests)
+
+-- more groups than the greatest number of 64 bits has
+pub refuses_many : (gs : List ℕ) (bits : ℕ) → bits ≤ 64 → length (groups (2 ^ 64 - 1)) < length gs → None ≡ number_in gs bits
+refuses_many gs bits few many =
+    ⊎_elim
+    (λ fits.
+    let up : 2 ^ bits ≤ 2 ^ 64 = pow-le-pow_right (omega arith) {i = bits} {j = 64} few in
+    let m = mono_groups (2 ^ 64 - 1) (value gs) (omega arith) in
+    in_long gs bits (λ e. omega arith))
+    (λ wide. in_wide gs bits wide)
+    (cases_lt (value gs) (2 ^ bits))
 
 -- a number's bytes stand at a place exactly if the run ends before the bytes do
 pub front : List ℕ → ℕ → List ℕ

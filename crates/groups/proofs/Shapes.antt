@@ -147,3 +147,14 @@ value_turn gs s t u rest xs yielded r b is steps n all =
     let l = value_drop_le (length gs - (length xs + 1)) gs in
     let v : value (drop (length gs - (length xs + 1)) gs) ≡ b.now % 128 + 128 * n = grind (arith, get_or-reverse) in
     (ap (λ k. value (drop (length gs - k) gs)) (length_push xs b) ∙ v, omega arith)
+
+-- a greater number has no fewer groups
+pub mono_groups : (m n : ℕ) → n ≤ m → length (groups n) ≤ length (groups m)
+mono_groups =
+    by_sevens (λ m. (n : ℕ) → n ≤ m → length (groups n) ≤ length (groups m))
+    (λ m l n h. omega (arith, ap length (groups_low m l), ap length (groups_low n (omega arith))))
+    (λ m l up n h.
+    ⊎_elim
+    (λ s. omega (arith, ap length (groups_high m l), ap length (groups_low n s)))
+    (λ b. omega (arith, ap length (groups_high m l), ap length (groups_high n b), up (n / 128) (omega arith)))
+    (cases_lt n 128))

@@ -1,5 +1,5 @@
 -- Writing groups one by one. Assumes nothing.
-use Rattle.std.proofs.Common.{◌≡◌, ℕ, ◌+◌, ◌/◌, ◌%◌, ◌<◌, ◌≤◌, List, [], ◌∷◌, ◌++◌, length, get_or, take, drop, set, sym, refl, ap, ◌∙◌, append_assoc, add-one, arith}
+use Rattle.std.proofs.Common.{◌≡◌, ℕ, suc, ◌+◌, ◌/◌, ◌%◌, ◌<◌, ◌≤◌, List, [], ◌∷◌, ◌++◌, length, get_or, take, drop, set, sym, refl, ap, ◌∙◌, append_assoc, add-one, arith}
 use Rattle.std.proofs.lemmas.List.{length-drop, take_more, take_more_set, drop_more, drop_at, length-take-le}
 use Rattle.std.proofs.lemmas.List.Edits.{sets, sets-eq}
 use Rattle.groups.specs.Groups.{groups, written, Stands}
@@ -42,3 +42,10 @@ replaces out at bs h = written_sets bs out at ∙ sets-eq bs out at h ∙ append
 pub stands_written : (bs out : List ℕ) (at : ℕ) → at + length bs ≤ length out → Stands (written out at bs) at bs
 stands_written bs out at h =
     (drop (at + length bs) out, ap (drop at) (replaces out at bs h) ∙ drop_at (take at out) (bs ++ drop (at + length bs) out) at (length-take-le at out (omega arith)))
+
+-- writing two rows of bytes, one behind the other
+pub written_both : (cs bs out : List ℕ) (at : ℕ) → written out at (cs ++ bs) ≡ written (written out at cs) (at + length cs) bs
+written_both [] bs out at = let e : at ≡ at + 0 = omega arith in ap (λ k. written out k bs) e
+written_both (c ∷ cs) bs out at =
+    let e : at + 1 + length cs ≡ at + suc (length cs) = omega arith in
+    written_both cs bs (set out at c) (at + 1) ∙ ap (λ k. written (written (set out at c) (at + 1) cs) k bs) e

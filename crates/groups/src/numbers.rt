@@ -154,10 +154,13 @@ fn value_of(part: &[u8]) -> Option<u64>
     Some(n)
 }
 
-// The number that groups stand for, if it fits its bits and they are its shortest groups.
+// The number that groups stand for, if it fits its bits and they are its shortest groups. More groups than any number has are not counted.
 fn number_of<T: Whole>(part: &[u8]) -> Option<T>
     ensures { option_map T.number result ≡ number_in part.now T.bits }
 {
+    if part.len() > width_of(u64::MAX) {
+        return None;
+    }
     let n = value_of(part)?;
     if width_of(n) != part.len() {
         return None;

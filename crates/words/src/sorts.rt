@@ -46,7 +46,7 @@ impl From<u8> for Sort {
 pub fn is_white(b: u8) -> bool
     ensures { result ≡ white b }
 {
-    matches!(Sort::from(b), Sort::White)
+    matches!(b, b' ' | b'\t' | b'\n' | b'\r')
 }
 
 // Whether a name or a variable goes on with a byte.
