@@ -20,7 +20,7 @@ pub struct Occurrence {
 fn is_of(fact: &Mention, predicate: &Predicate) -> bool
     ensures { result ≡ predicates_agree (predicate_of (mention fact.now)) (coded predicate.now) }
 {
-    Predicate::of(fact) == *predicate
+    Predicate::of(fact).same(predicate)
 }
 
 // The heads of a rule as written.

@@ -14,7 +14,7 @@ fn title(page: &mut Page, rule: &Rule) -> Result<(), AllocError> {
     page.name(&rule.label)?;
     write!(page, ": {} variables (", rule.variables.list.len())?;
     let mut before = "";
-    for name in rule.variables.list.as_slice() {
+    for name in rule.variables.list.iter() {
         page.text(before)?;
         page.name(name)?;
         before = " ";
@@ -26,7 +26,7 @@ fn show_rule(page: &mut Page, rule: &Rule) -> Result<(), AllocError> {
     title(page, rule)?;
     let mut named = Named {
         page,
-        names: rule.variables.list.as_slice(),
+        names: &rule.variables.list,
     };
     named.heads("  kept ", rule.kept)?;
     named.heads("  removed ", rule.removed)?;
@@ -55,7 +55,7 @@ fn places(page: &mut Page, rules: &[Rule], predicate: &Predicate) -> Result<(), 
 }
 
 fn predicates(page: &mut Page, book: &Book) -> Result<(), AllocError> {
-    for (number, predicate) in book.predicates.list.as_slice().iter().enumerate() {
+    for (number, predicate) in book.predicates.list.iter().enumerate() {
         write!(page, "predicate {number} ")?;
         page.name(&predicate.name)?;
         write!(page, "/{}:", predicate.arity)?;

@@ -1,5 +1,5 @@
 -- Predicates and their numbers. Assumes nothing.
-use Rattle.std.specs.Prelude.{◌≡◌, ℕ, suc, ◌<◌, Bool, true, false, cond, ◌&&◌, ◌||◌, List, [], ◌∷◌, ◌++◌, map, length, Some, None, Ok, Err, Option, Result, ◌==◌, nat_lt}
+use Rattle.std.specs.Prelude.{◌≡◌, ℕ, suc, ◌<◌, Bool, true, false, cond, ◌&&◌, ◌||◌, List, [], ◌∷◌, ◌++◌, map, length, Some, None, Ok, Err, vec_items, Option, Result, ◌==◌, nat_lt}
 use Rattle.words.specs.Names.{name_bytes}
 use Rattle.syntax.specs.Grammar.{same_name}
 use Rattle.parse.specs.Model.{Mention}
@@ -50,7 +50,7 @@ abbrev pub coded : Code → Predicate
 coded p = (name_bytes p.name, p.arity)
 
 abbrev pub predicates : Predicates → List Predicate
-predicates ps = map coded ps.list.items
+predicates ps = map coded (vec_items ps.list)
 
 -- the number of a predicate, or none where it is not there
 abbrev pub Numbered : List Predicate → Predicate → Option ℕ → Type 0

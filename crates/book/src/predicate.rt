@@ -1,5 +1,6 @@
 // Predicates: a name with its count of arguments.
-use bounded::Bounded;
+ghost use Rattle.std.specs.Prelude.{◌≤◌, vec_len};
+
 use words::name::Name;
 
 pub mod numbering;
@@ -13,8 +14,9 @@ pub struct Predicate {
 // A book has at most so many predicates.
 pub const MOST_PREDICATES: usize = 32;
 
-// Numbered from 0 as they first appear.
+// At most 32, numbered from 0 as they first appear.
 #[derive(Drop)]
 pub struct Predicates {
-    pub list: Bounded<Predicate, MOST_PREDICATES>,
+    pub list: Vec<Predicate>,
+    ghost few: { vec_len list ≤ 32 },
 }

@@ -1,6 +1,7 @@
 -- Variables and rules' names, by the word ahead. Assumes nothing.
-use Rattle.std.proofs.Common.{◌≡◌, ℕ, suc, ◌<◌, ◌≤◌, Bool, true, false, cond, ◌||◌, eqb, ltb, List, [], ◌∷◌, ◌++◌, length, Some, sym, refl, ap, ◌∙◌, subst, Bor}
+use Rattle.std.proofs.Common.{◌≡◌, ℕ, suc, ◌<◌, ◌≤◌, Bool, true, false, cond, ◌||◌, eqb, ltb, List, [], ◌∷◌, ◌++◌, length, Some, vec_len, sym, refl, ap, ◌∙◌, subst, Bor}
 use Rattle.std.proofs.lemmas.Bool.{false≢true, cond-true, cond-false, lt-ltb, le-ltb}
+use Rattle.std.proofs.lemmas.List.{length-map}
 use Rattle.syntax.specs.Syntax.{W, name, var, sign, kind, mem, fine, flaw, noted, ok}
 use Rattle.syntax.specs.Grammar.{Scope, binding, bound, var_note, among, joined, joins, same_name, label_name, true_name, fail_name}
 use Rattle.syntax.specs.Readers.{read_variable, read_label, first_rule, label_value}
@@ -69,6 +70,10 @@ joins_known vs v i h e = (binding_known vs v h, sym (joined_known vs v h), λ mo
 pub joins_new : (vs us : List (List ℕ)) (v : List ℕ) (n : ℕ) → among vs v ≡ false → n < 6 → n ≡ length vs → us ≡ vs ++ v ∷ [] → (var_note (binding vs) v ≡ fine) × (us ≡ joined vs v) × ((more : List (List ℕ)) → index_of (us ++ more) v ≡ n)
 joins_new vs us v n h k s e =
     (binding_new vs v h (subst (λ m. m < 6) s k), e ∙ sym (joined_new vs v h), λ more. ap (λ l. index_of (l ++ more) v) e ∙ index_new vs more v h ∙ sym s)
+
+-- a table's length is that of its names
+pub variables_length : (ns : Names) → length (variables ns) ≡ vec_len ns.list
+variables_length ns = rw length-map (sym ns.list.ok.0)
 
 -- a variable that a rule's scope knows
 pub variable_known : (s : Scope') (ns : Bor Names) → s ≡ Rule ns → (l r : List W) (v : List ℕ) (i : ℕ) → l ≡ var v ∷ r → among (variables ns.now) v ≡ true → index_of (variables ns.now) v ≡ i → (x : List ℕ) × ((joins (scope s) x ≡ scope s) × ((us : List (List ℕ)) → Numbers (scope s) us → index_of us x ≡ i)) × (read_variable (scope s) l ≡ ok x r)

@@ -1,5 +1,5 @@
 -- The code's scopes as the grammar's. Assumes nothing.
-use Rattle.std.specs.Prelude.{◌≡◌, ℕ, ◌<◌, true, false, List, [], ◌++◌, length, Some, None, Option}
+use Rattle.std.specs.Prelude.{◌≡◌, ℕ, ◌<◌, true, false, List, [], ◌++◌, length, Some, None, Ok, Err, vec_items, Option, Result}
 use Rattle.words.specs.declared.name.Name.{Name}
 use Rattle.words.specs.Names.{name_bytes}
 use Rattle.syntax.specs.Syntax.{mem, fine, flaw}
@@ -16,7 +16,7 @@ use Rattle.parse.specs.Flat.{spelled, index_of}
 
 -- the names of a rule's variables
 abbrev pub variables : Names → List (List ℕ)
-variables ns = spelled ns.list.items
+variables ns = spelled (vec_items ns.list)
 
 abbrev pub scope_variables : Scope → List (List ℕ)
 scope_variables (Rule ns) = variables ns.now
@@ -42,9 +42,10 @@ Known vs v None = grammar.among vs v ≡ false
 Known vs v (Some i) = (grammar.among vs v ≡ true) × (index_of vs v ≡ i.index)
 
 -- a name was looked up among a rule's variables, and joined them if it was new; there is none where it would be one too many
-abbrev pub Joins : List (List ℕ) → List ℕ → Option Variable → List (List ℕ) → Type 0
-Joins vs v None us = grammar.var_note (grammar.binding vs) v ≡ flaw 5
-Joins vs v (Some i) us = (grammar.var_note (grammar.binding vs) v ≡ fine) × (us ≡ grammar.joined vs v) × ((more : List (List ℕ)) → index_of (us ++ more) v ≡ i.index)
+abbrev pub Joins : {E : Type 0} → List (List ℕ) → List ℕ → Result (Option Variable) E → List (List ℕ) → Type 0
+Joins vs v (Ok None) us = grammar.var_note (grammar.binding vs) v ≡ flaw 5
+Joins vs v (Ok (Some i)) us = (grammar.var_note (grammar.binding vs) v ≡ fine) × (us ≡ grammar.joined vs v) × ((more : List (List ℕ)) → index_of (us ++ more) v ≡ i.index)
+Joins vs v (Err e) us = Unit {0}
 
 -- the tables in which the names of a scope have the numbers that they have in it: behind those of the heads others may join
 abbrev pub Numbers : grammar.Scope → List (List ℕ) → Type 0

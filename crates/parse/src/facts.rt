@@ -6,7 +6,7 @@ ghost use Rattle.parse.specs.Flat.{mention_of};
 ghost use Rattle.parse.specs.Model.{Term as PlainTerm, Mention as PlainMention, term, mention};
 
 use crate::cursor::Cursor;
-use crate::few::Few;
+use crate::few::{Few, Room};
 use crate::flaw::Flaw;
 use crate::parts::{Part, parts};
 use crate::terms::Arguments;
@@ -57,7 +57,7 @@ impl<S: Arguments> Part<S> for Mention {
                 arguments: Few::Zero,
             });
         }
-        let arguments = parts(cursor, scope, Sign::Comma, 3)?;
+        let arguments = parts(cursor, scope, Sign::Comma, Room { left: 3 })?;
         cursor.expect(Sign::Close)?;
         Ok(Mention {
             place,

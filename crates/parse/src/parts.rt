@@ -1,5 +1,5 @@
 // Parts in a row, with a mark between two.
-ghost use Rattle.std.specs.Prelude.{◌≡◌, ℕ, ◌<◌, ◌≤◌, List, [], ◌∷◌, ◌++◌, length, vec_items, OnOk};
+ghost use Rattle.std.specs.Prelude.{◌≡◌, ℕ, ◌<◌, List, [], ◌∷◌, ◌++◌, length, vec_items, OnOk};
 ghost use Rattle.syntax.specs.Syntax.{Reader};
 ghost use Rattle.syntax.specs.Parts.{parts as grammar_parts};
 ghost use Rattle.syntax.specs.Grammar.{Scope as GrammarScope, next_all};
@@ -10,7 +10,7 @@ ghost use Rattle.parse.specs.Scopes.{Grown, Keeps};
 ghost use Rattle.parse.specs.Tokens.{sign_code};
 
 use crate::cursor::Cursor;
-use crate::few::Few;
+use crate::few::{Few, Room};
 use crate::flaw::Flaw;
 use crate::starts::Begins;
 use crate::token::Sign;
@@ -40,22 +40,34 @@ pub trait Part<S: Variables>: Begins + Drop + Sized {
 
 // What holds the parts of a row.
 pub trait Row<T>: Drop + Sized {
+    // At most how many there may be: no more than it holds.
+    type Most: Copy;
+
     ghost held: { Self → List T };
 
-    ghost Holds: { ℕ → Type 0 };
+    ghost number: { Self.Most → ℕ };
+
+    fn number(most: Self::Most) -> u8
+        ensures { result ≡ number most };
 
     fn new(heap: Global) -> Self
         ensures { held result ≡ [] };
 
-    // One more behind the others, as long as so many may be held.
+    // One more behind the others, where there were fewer than it may hold.
     fn add(&mut self, x: T) -> Result<(), AllocError>
-        ensures { OnOk result ((n : ℕ) → Holds n → length (held self.old) < n → held self.new ≡ held self.old ++ x ∷ []) };
+        ensures { OnOk result ((most : Self.Most) → length (held self.old) < number most → held self.new ≡ held self.old ++ x ∷ []) };
 }
 
 impl<T: Copy> Row<T> for Few<T> {
+    type Most = Room;
+
     ghost held = { few_items };
 
-    ghost Holds = { λ n. n ≤ 3 };
+    ghost number = { λ room. room.left };
+
+    fn number(most: Room) -> u8 {
+        most.left
+    }
 
     fn new(_heap: Global) -> Few<T> {
         Few::Zero
@@ -68,9 +80,15 @@ impl<T: Copy> Row<T> for Few<T> {
 }
 
 impl<T: Drop> Row<T> for Vec<T> {
+    type Most = u8;
+
     ghost held = { vec_items };
 
-    ghost Holds = { λ n. Unit {0} };
+    ghost number = { λ n. n };
+
+    fn number(most: u8) -> u8 {
+        most
+    }
 
     fn new(heap: Global) -> Vec<T> {
         Vec::new(heap)
@@ -87,14 +105,13 @@ pub fn parts<R: Row<P>, P: Part<S>, S: Variables>(
     cursor: &mut Cursor,
     scope: &mut S,
     mark: Sign,
-    most: u8,
+    most: R::Most,
 ) -> Result<R, Flaw>
-    requires { R.Holds most }
     ensures same { cursor.new.tokens ≡ cursor.old.tokens }
-    ensures told { Tells (Grown (row_view P.view R.held) (row_value P.value) (next_all P.next) (S.holds scope.old) (S.holds scope.new)) result cursor.new (grammar_parts P.first (sign_code mark) P.reader P.next most (S.holds scope.old) (rest cursor.old)) }
+    ensures told { Tells (Grown (row_view P.view R.held) (row_value P.value) (next_all P.next) (S.holds scope.old) (S.holds scope.new)) result cursor.new (grammar_parts P.first (sign_code mark) P.reader P.next (R.number most) (S.holds scope.old) (rest cursor.old)) }
 {
     let mut row = R::new(cursor.heap);
-    for _turn in 0..most {
+    for _turn in 0..R::number(most) {
         let part = P::read(cursor, scope)?;
         row.add(part)?;
         if !cursor.skip(mark) {

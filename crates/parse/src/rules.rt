@@ -10,7 +10,7 @@ ghost use Rattle.parse.specs.Scopes.{variables};
 
 use crate::bodies::body;
 use crate::cursor::Cursor;
-use crate::few::Few;
+use crate::few::{Few, Room};
 use crate::flaw::Flaw;
 use crate::guards::{PROPAGATE, SIMPLIFY, guard};
 use crate::parts::parts;
@@ -24,7 +24,7 @@ fn arrow(cursor: &mut Cursor, names: &mut Names, first: Few<Mention>) -> Result<
     ensures told { Tells (IsArrow (variables names.old) (variables names.new) first) result cursor.new (arrow_from (length (few_items first)) (binding (variables names.old)) (rest cursor.old)) }
 {
     if cursor.skip(Sign::Backslash) {
-        let removed = parts(cursor, names, Sign::Comma, first.room().left)?;
+        let removed = parts(cursor, names, Sign::Comma, first.room())?;
         let guard = guard(cursor, Scope::Rule(names), SIMPLIFY)?;
         return Ok(Arrow {
             kept: first,
@@ -55,8 +55,8 @@ pub fn rule(cursor: &mut Cursor, rules: &[Rule]) -> Result<Rule, Flaw>
 {
     let label = cursor.label(rules)?;
     cursor.expect(Sign::At)?;
-    let mut names = Names::new(cursor.heap)?;
-    let first = parts(cursor, &mut names, Sign::Comma, 3)?;
+    let mut names = Names::new(cursor.heap);
+    let first = parts(cursor, &mut names, Sign::Comma, Room { left: 3 })?;
     let Arrow {
         kept,
         removed,

@@ -1,5 +1,6 @@
 // The variables of a rule, numbered by their first appearance.
-use bounded::Bounded;
+ghost use Rattle.std.specs.Prelude.{◌≤◌, vec_len};
+
 use words::name::Name;
 
 pub mod tables;
@@ -7,7 +8,8 @@ pub mod tables;
 // At most six names.
 #[derive(Drop)]
 pub struct Names {
-    pub list: Bounded<Name, 6>,
+    pub list: Vec<Name>,
+    ghost few: { vec_len list ≤ 6 },
 }
 
 // Which variables may stand: those of the rule's heads, or none, in a goal. Two scopes, in which a variable is another fault, and not a

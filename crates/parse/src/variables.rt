@@ -30,7 +30,7 @@ impl Variables for Names {
         let Lexeme::Variable(name) = cursor.word()?.lexeme else {
             return Err(Flaw::Barred(cursor.at));
         };
-        let Some(number) = self.join(name) else {
+        let Some(number) = self.join(name)? else {
             return Err(Flaw::TooMany(cursor.at));
         };
         cursor.at += 1;

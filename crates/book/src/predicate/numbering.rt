@@ -1,13 +1,13 @@
 // Predicates are numbered as facts mention them.
-ghost use Rattle.std.specs.Prelude.{◌≡◌, [], map, position};
+ghost use Rattle.std.specs.Prelude.{◌≡◌, [], map};
 ghost use Rattle.parse.specs.Model.{mention};
 ghost use Rattle.book.specs.Predicates.{coded, predicates_agree, predicates, predicate_of, Numbered, Noted, Listed, listing, has, unknowns, UnknownTold};
 
 use crate::faults::{BookFault, GrammarFault};
-use crate::predicate::{Predicate, Predicates};
-use bounded::Bounded;
+use crate::predicate::{MOST_PREDICATES, Predicate, Predicates};
 use parse::tree::Mention;
 use std::alloc::Global;
+use words::name::spelling::same_name;
 
 impl Predicate {
     // The predicate of a fact: its name, and how many arguments it has.
@@ -19,13 +19,20 @@ impl Predicate {
             arity: fact.arguments.len(),
         }
     }
+
+    // Whether two predicates are the same: as many arguments, and one name.
+    pub fn same(&self, other: &Predicate) -> bool
+        ensures { result ≡ predicates_agree (coded self.now) (coded other.now) }
+    {
+        self.arity == other.arity && same_name(&self.name, &other.name)
+    }
 }
 
 // Where in a table a predicate stands first, if it does.
 fn position(list: &[Predicate], predicate: &Predicate) -> Option<usize>
-    ensures { result ≡ position (λ k. ⟦<Predicate as PartialEq>⟧.eq k predicate.now) list.now }
+    ensures { Numbered (map coded list.now) (coded predicate.now) result }
 {
-    list.iter().position(|known| known == predicate)
+    list.iter().position(|known| known.same(predicate))
 }
 
 impl Predicates {
@@ -33,7 +40,7 @@ impl Predicates {
     pub fn number(&self, predicate: &Predicate) -> Option<usize>
         ensures { Numbered (predicates self.now) (coded predicate.now) result }
     {
-        position(self.list.as_slice(), predicate)
+        position(&self.list, predicate)
     }
 
     // Whether a fact's predicate is among these.
@@ -62,10 +69,11 @@ impl Predicates {
         if self.knows(fact) {
             return Ok(());
         }
-        match self.list.push(Predicate::of(fact)) {
-            Ok(()) => Ok(()),
-            Err(_) => Err(BookFault::Grammar(GrammarFault::TooMany(fact.place))),
+        if self.list.len() >= MOST_PREDICATES {
+            return Err(BookFault::Grammar(GrammarFault::TooMany(fact.place)));
         }
+        self.list.push(Predicate::of(fact))?;
+        Ok(())
     }
 
     // The predicates of some facts, numbered as they first appear.
@@ -73,7 +81,7 @@ impl Predicates {
         ensures { Listed result (listing [] (map mention facts.now)) }
     {
         let mut all = Predicates {
-            list: Bounded::new(heap)?,
+            list: Vec::new(heap),
         };
         for fact in facts {
             all.note(fact)?;

@@ -1,5 +1,5 @@
 // Looking a name up in a table.
-ghost use Rattle.std.specs.Prelude.{◌≡◌, ◌<◌, ◌≤◌, not, [], length, nat_lt, IfOk};
+ghost use Rattle.std.specs.Prelude.{◌≡◌, ◌<◌, ◌≤◌, not, [], length, nat_lt};
 ghost use Rattle.words.specs.Names.{name_bytes};
 ghost use Rattle.parse.specs.declared.scope.Scope.TheVariants.{Goal};
 ghost use Rattle.parse.specs.Flat.{spelled};
@@ -7,7 +7,6 @@ ghost use Rattle.parse.specs.Scopes.{variables, Found, Known, Joins};
 
 use crate::number::Variable;
 use crate::scope::{Names, Scope};
-use bounded::Bounded;
 use std::alloc::{AllocError, Global};
 use words::name::Name;
 use words::name::spelling::same_name;
@@ -29,19 +28,19 @@ impl<'a> Scope<'a> {
 }
 
 impl Names {
-    // No names, and room for six.
-    pub fn new(heap: Global) -> Result<Names, AllocError>
-        ensures { IfOk result (λ ns. variables ns ≡ []) }
+    // No names.
+    pub fn new(heap: Global) -> Names
+        ensures { variables result ≡ [] }
     {
-        let list = Bounded::new(heap)?;
-        Ok(Names { list })
+        let list = Vec::new(heap);
+        Names { list }
     }
 
     // The number of a name, if it is among these.
     pub fn find(&self, name: &Name) -> Option<Variable>
         ensures { Known (variables self.now) (name_bytes name.now) result }
     {
-        let i = position(self.list.as_slice(), name)?;
+        let i = position(&self.list, name)?;
         Some(Variable { index: i as u8 })
     }
 
@@ -49,19 +48,22 @@ impl Names {
     pub fn is_full(&self) -> bool
         ensures { result ≡ not (nat_lt (length (variables self.now)) 6) }
     {
-        self.list.is_full()
+        self.list.len() >= 6
     }
 
     // The number of a name, which joins the others if it is new; none where there is no room for it.
-    pub fn join(&mut self, name: Name) -> Option<Variable>
+    pub fn join(&mut self, name: Name) -> Result<Option<Variable>, AllocError>
         ensures { Joins (variables self.old) (name_bytes name) result (variables self.new) }
     {
         if let Some(known) = self.find(&name) {
-            return Some(known);
+            return Ok(Some(known));
         }
         let count = self.list.len();
-        self.list.push(name).ok()?;
-        Some(Variable { index: count as u8 })
+        if count >= 6 {
+            return Ok(None);
+        }
+        self.list.push(name)?;
+        Ok(Some(Variable { index: count as u8 }))
     }
 }
 
@@ -72,12 +74,12 @@ mod tests {
 
     #[test]
     fn numbers_names_as_they_join(rt: HostRuntime) -> Result<(), Fail> {
-        let mut names = Names::new(rt.alloc())?;
+        let mut names = Names::new(rt.alloc());
         let first = Name::truth();
         assert!(rt; names.find(&first).is_none());
-        assert_eq!(rt; names.join(first), Some(Variable { index: 0 }));
-        assert_eq!(rt; names.join(Name::failure()), Some(Variable { index: 1 }));
-        assert_eq!(rt; names.join(first), Some(Variable { index: 0 }));
+        assert_eq!(rt; names.join(first)?, Some(Variable { index: 0 }));
+        assert_eq!(rt; names.join(Name::failure())?, Some(Variable { index: 1 }));
+        assert_eq!(rt; names.join(first)?, Some(Variable { index: 0 }));
         assert!(rt; !names.is_full());
         Ok(())
     }

@@ -15,14 +15,14 @@ pub returns-in_err-first-clause-told : goal.returns-in_err-first-clause-told
 unfolding read_heads
 returns-in_err-first-clause-told c =
     let k = c.in_ok-label.ensures.told in
-    let none = sym c.in_ok-names.ensures in
+    let none = sym c.new-names.ensures in
     exit (IsAs rule_view rule_model) c.parts.new.cursor c.from_residual-in_err-first.result c.from_residual-in_err-first.ensures.1 (heads_led (read_label (labels c.args.rules.now)) (read_heads 3 (binding [])) read_arrow (λ hs a. read_body (behind hs a)) (rest c.args.cursor.now) k.2 c.in_ok-expect.ensures.told (faulted_same (ap (λ v. read_heads 3 (binding v) (rest c.expect.new.self)) none) c.in_err-first.ensures.told))
 
 pub returns-in_err-kept-clause-told : goal.returns-in_err-kept-clause-told
 unfolding read_heads
 returns-in_err-kept-clause-told c =
     let k = c.in_ok-label.ensures.told in
-    let none = sym c.in_ok-names.ensures in
+    let none = sym c.new-names.ensures in
     let h = c.in_ok-first.ensures.told in
     let vs = variables c.parts.new.scope in
     let heads = ap (λ v. read_heads 3 (binding v) (rest c.expect.new.self)) none ∙ h.2 in
@@ -33,7 +33,7 @@ pub returns-in_err-body-clause-told : goal.returns-in_err-body-clause-told
 unfolding read_heads
 returns-in_err-body-clause-told c =
     let k = c.in_ok-label.ensures.told in
-    let none = sym c.in_ok-names.ensures in
+    let none = sym c.new-names.ensures in
     let h = c.in_ok-first.ensures.told in
     let vs = variables c.parts.new.scope in
     let heads = ap (λ v. read_heads 3 (binding v) (rest c.expect.new.self)) none ∙ h.2 in
@@ -47,7 +47,7 @@ pub returns-in_err-expect-2-clause-told : goal.returns-in_err-expect-2-clause-to
 unfolding read_heads
 returns-in_err-expect-2-clause-told c =
     let k = c.in_ok-label.ensures.told in
-    let none = sym c.in_ok-names.ensures in
+    let none = sym c.new-names.ensures in
     let h = c.in_ok-first.ensures.told in
     let vs = variables c.parts.new.scope in
     let heads = ap (λ v. read_heads 3 (binding v) (rest c.expect.new.self)) none ∙ h.2 in
@@ -62,7 +62,7 @@ pub returns-clause-told : goal.returns-clause-told
 unfolding read_heads
 returns-clause-told c =
     let k = c.in_ok-label.ensures.told in
-    let none = sym c.in_ok-names.ensures in
+    let none = sym c.new-names.ensures in
     let h = c.in_ok-first.ensures.told in
     let vs = variables c.parts.new.scope in
     let heads = ap (λ v. read_heads 3 (binding v) (rest c.expect.new.self)) none ∙ h.2 in
