@@ -4,13 +4,14 @@ use Rattle.std.proofs.Common.{sym, ap, ap₂, ◌∙◌, arith, div-add-mod'}
 use Rattle.std.proofs.lemmas.Int.{ints}
 use Rattle.std.proofs.lemmas.Bool.{and_parts, and_from, leb-true, le-leb, true≢false}
 use Rattle.std.proofs.lemmas.Nat.{div-mul-add, mod-mul-add}
+use Rattle.cells.specs.declared.relations.Relation.{Relation}
 use Rattle.cells.specs.declared.relations.Telling.{Telling}
 use Rattle.cells.specs.Relations.{meets}
 use Rattle.cells.specs.Laws.{between, tally, Ends, Fits64, Inhabited, Confined, Extensional, Entire, Leaves, Narrows, Answers, First, Last, Counts}
 use Rattle.cells.specs.declared.spans.Span.{Span}
-use Rattle.cells.specs.Spans.{span, raised, lowered}
+use Rattle.cells.specs.Spans.{span, within, raised, lowered, all_satisfy}
 use Rattle.cells.specs.Bounds.{bounds_ends, low_of, high_of, packed, is_bounds, bounds_member, bounds_from, bounds_narrowed, bounds_asked, bounds_least, bounds_greatest, bounds_counted}
-use Rattle.cells.specs.SpanLaws.{clipped, raised_above, lowered_below, asked_by_ends, least_by_ends, greatest_by_ends, ends_some}
+use Rattle.cells.specs.SpanLaws.{clipped, raised_above, lowered_below, asked_by_ends, least_by_ends, greatest_by_ends, ends_some, asks}
 use Rattle.cells.specs.Tallies.{tally_same, tally_none, tally_middle}
 
 -- a content's ends, as natural numbers
@@ -155,6 +156,12 @@ counts c = at (is_bounds c) refl
 holds_ends : (c : ℕ) (s : Span) → Some s ≡ bounds_ends c → (is_bounds c ≡ true) × (s.low ≡ low_of c) × (s.high ≡ high_of c)
 holds_ends c s e = ends_some (is_bounds c) (low_of c) (high_of c) s e
 
+pub bounds_asks : (c : ℕ) (s : Span) (r : Relation) {m n : ℤ} {x has : Bool} → m ≡ n → Some s ≡ bounds_ends c → has ≡ within s m
+    → x ≡ all_satisfy s.low s.high has r m → x ≡ bounds_asked c r n
+bounds_asks c s r {m} same e h a =
+    let p = holds_ends c s e in
+    asks (is_bounds c) (low_of c) (high_of c) (between (low_of c) (high_of c)) s r same e (h ∙ ap₂ (λ (x y : ℤ). between x y m) p.1 p.2) a
+
 -- bounds_narrowed, at the ends of a content
 at_ends : (c : ℕ) (s : Span) (t : Telling) (n : ℤ) → Some s ≡ bounds_ends c
     → bounds_from (raised s.low t n) (lowered s.high t n) ≡ bounds_narrowed c t n
@@ -193,4 +200,17 @@ clips_some c s left t {n = n} same e h =
       ap₂ (λ (x y : ℤ). Some (packed x y)) q.1 q.2
           ∙ sym (ap (λ (b : Bool). cond b (Some (packed (raised s.low t n) (lowered s.high t n))) None) q.0)
           ∙ at_ends c s t n e,
+    )
+
+-- how many numbers lie from end to end
+pub counted_by : (c : ℕ) (s : Span) → Some s ≡ bounds_ends c
+    → (s.low ≤ℤ s.high) × (negsuc 999999999 ≤ℤ s.low) × (s.high ≤ℤ pos 1000000000) × ((k : ℕ) → pos k ≡ (s.high -ℤ s.low) +ℤ pos 1 → k ≡ bounds_counted c)
+counted_by c s e =
+    let p = holds_ends c s e in
+    let h = ends_are c p.0 in (
+      omega (arith, ints, p.1, p.2),
+      omega (arith, ints, p.1),
+      omega (arith, ints, p.2),
+      λ k j. (let i : k ≡ c % 4294967296 + 1 - c / 4294967296 = omega (arith, ints, p.1, p.2, j) in i)
+          ∙ sym (ap (λ (b : Bool). cond b (c % 4294967296 + 1 - c / 4294967296) 0) p.0),
     )

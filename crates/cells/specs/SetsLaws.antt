@@ -1,21 +1,22 @@
 -- The laws of sets.
-use Rattle.std.specs.Prelude.{◌≡◌, ℕ, ◌+◌, ◌^◌, ◌<◌, ◌≤◌, Bool, true, false, cond, ◌&&◌, ◌⊎◌, ℤ, pos, negsuc, ◌+ℤ◌, ◌≤ℤ◌, Some, None, count_ones, int_le, nat_le, nat_lt, unsigned_abs}
+use Rattle.std.specs.Prelude.{◌≡◌, ℕ, ◌+◌, ◌^◌, ◌<◌, ◌≤◌, Bool, true, false, cond, ◌&&◌, ◌⊎◌, ℤ, pos, negsuc, ◌+ℤ◌, ◌≤ℤ◌, Some, None, Option, count_ones, int_le, nat_le, nat_lt, unsigned_abs}
 use Rattle.std.proofs.Math.Path.{refl, sym, ap}
 use Rattle.std.proofs.Common.{ap₂, ◌∙◌, subst, inl, inr}
 use Rattle.std.proofs.Math.Nat.{lt_of_le_of_lt}
 use native.Mathlib.Omega.{arith}
 use borrow.Author.Differences.{ints}
-use Rattle.std.specs.Int.Bits.{bit_and}
+use Rattle.std.specs.Int.Bits.{bit_and, and_zero_l}
 use Rattle.std.specs.Int.Count.{ones_in}
 use Rattle.std.proofs.lemmas.Bool.{and_parts, and_from, le-leb, ltb-true, ltb-false, lt-ltb, true≢false, both_ways, cases_Bool}
 use Rattle.std.proofs.lemmas.Nat.{pow_pos, and_le_l}
 use Rattle.std.proofs.lemmas.Bool.Decides.{nat_tests}
 use Rattle.cells.specs.declared.relations.Telling.{Telling}
+use Rattle.cells.specs.declared.spans.Span.{Span}
 use Rattle.cells.specs.Relations.{meets}
 use Rattle.cells.specs.Laws.{between, tally, Ends, Fits64, Inhabited, Confined, Extensional, Entire, Leaves, Narrows, Answers, First, Last, Counts}
-use Rattle.cells.specs.Spans.{raised, lowered}
+use Rattle.cells.specs.Spans.{span, raised, lowered}
 use Rattle.cells.specs.Sets.{bit, is_set, set_member, window, some_bits, set_within, set_narrowed, lowest_bit, highest_bit, set_asked, set_least, set_greatest, set_counted}
-use Rattle.cells.specs.SpanLaws.{clipped, raised_above, asked_by_ends, least_by_ends, greatest_by_ends}
+use Rattle.cells.specs.SpanLaws.{clipped, raised_above, asked_by_ends, least_by_ends, greatest_by_ends, ends_some}
 use Rattle.cells.specs.Tallies.{tally_same, tally_none}
 use Rattle.cells.specs.Bitwise.{bits_same, bit_of_and, bit_window, bit_beyond, trailing_bit, leading_bit, all_ones, tally_bits}
 
@@ -193,3 +194,17 @@ counts_ones c h = at (is_set c) refl
     at : (b : Bool) → is_set c ≡ b → count_ones c ≡ cond b (ones_in 64 c) 0
     at true e = sym (all_ones 64 c h)
     at false e = let z = only_zero c h e in sym (all_ones 0 c (omega arith))
+
+-- m is the number n, and low and high are the ends that are left, as they were passed on
+pub set_clips : (c : ℕ) (left : Span) (t : Telling) {m n low high : ℤ} {w : ℕ} {r : Option ℕ} → c < 2 ^ 64 → m ≡ n → low ≡ left.low → high ≡ left.high
+    → Some left ≡ span (raised (pos 0) t m) (lowered (pos 63) t m) → w ≡ window (unsigned_abs low) (unsigned_abs high) → r ≡ some_bits (bit_and c w) → r ≡ set_narrowed c t n
+set_clips c left t {n = n} h same l u e k a =
+    let p = ends_some (int_le (raised (pos 0) t n) (lowered (pos 63) t n)) (raised (pos 0) t n) (lowered (pos 63) t n) left (e ∙ ap (λ (j : ℤ). span (raised (pos 0) t j) (lowered (pos 63) t j)) same) in
+    a ∙ ap (λ (x : ℕ). some_bits (bit_and c x)) (k ∙ ap₂ (λ (x y : ℤ). window (unsigned_abs x) (unsigned_abs y)) (l ∙ p.1) (u ∙ p.2))
+    ∙ sym (ap (λ (b : Bool). cond b (some_bits (bit_and c (window (unsigned_abs (raised (pos 0) t n)) (unsigned_abs (lowered (pos 63) t n))))) None) p.0)
+    ∙ at (int_le (raised (pos 0) t n) (lowered (pos 63) t n)) (window (unsigned_abs (raised (pos 0) t n)) (unsigned_abs (lowered (pos 63) t n))) (is_set c) refl
+  where
+    at : (o : Bool) (w : ℕ) (b : Bool) → is_set c ≡ b → cond o (some_bits (bit_and c w)) None ≡ cond b (cond o (some_bits (bit_and c w)) None) None
+    at o w true q = refl
+    at true w false q = ap some_bits (ap (λ (x : ℕ). bit_and x w) (only_zero c h q) ∙ and_zero_l w)
+    at false w false q = refl

@@ -1,6 +1,6 @@
 -- What narrowing and asking say of the numbers from a low to a high end.
 use Rattle.std.specs.Prelude.{◌≡◌, ℕ, Bool, true, false, cond, not, ◌&&◌, ℤ, ◌≤ℤ◌, Some, None, Decides, Option, refl}
-use Rattle.std.proofs.Common.{sym, ap, ◌∙◌, subst, arith}
+use Rattle.std.proofs.Common.{sym, ap, ap₂, ◌∙◌, subst, arith}
 use Rattle.std.proofs.lemmas.Int.{ints}
 use Rattle.std.proofs.lemmas.Bool.{both_ways, not-true, true≢false}
 use Rattle.cells.specs.declared.relations.Relation.{Relation}
@@ -92,3 +92,14 @@ pub ends_some : (b : Bool) (low high : ℤ) (s : Span) → ◌≡◌ {A = Option
     → (b ≡ true) × (s.low ≡ low) × (s.high ≡ high)
 ends_some true low high s p = let q : s ≡ record { low = low; high = high } = cc in (refl, ap (λ (x : Span). x.low) q, ap (λ (x : Span). x.high) q)
 ends_some false low high s p = absurd (let z : ◌≡◌ {A = ℕ} 0 1 = cc in omega arith)
+
+-- asking, of a set with these ends; m is the number n, as it was passed on
+pub asks : (b : Bool) (low high : ℤ) (member : ℤ → Bool) (s : Span) (r : Relation) {m n : ℤ} {x has : Bool} → m ≡ n
+    → ◌≡◌ {A = Option Span} (Some s) (cond b (Some (record { low = low; high = high })) None) → has ≡ member m
+    → x ≡ all_satisfy s.low s.high has r m → x ≡ cond b (all_satisfy low high (member n) r n) true
+asks b low high member s r {m} {n} same e h a =
+    let p = ends_some b low high s e in
+    a ∙ ap (λ (y : Bool). all_satisfy s.low s.high y r m) h
+    ∙ ap (λ (k : ℤ). all_satisfy s.low s.high (member k) r k) same
+    ∙ ap₂ (λ (x y : ℤ). all_satisfy x y (member n) r n) p.1 p.2
+    ∙ sym (ap (λ (t : Bool). cond t (all_satisfy low high (member n) r n) true) p.0)
