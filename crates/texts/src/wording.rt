@@ -65,16 +65,12 @@ impl fmt::Display for Narrowed {
 pub fn write_arguments(page: &mut Page, arguments: Few<Value>) -> Result<(), AllocError>
     ensures { OnOk result (page.new.bytes.items ≡ page.old.bytes.items ++ arguments_text (map valued (few_items arguments))) }
 {
-    let mut values = Vec::new(page.heap);
-    arguments.append_to(&mut values)?;
-    let Some((first, others)) = values.split_first() else {
-        return Ok(());
-    };
-    write!(page, "({first}")?;
-    for value in others {
-        write!(page, ",{value}")?;
+    match arguments {
+        Few::Zero => Ok(()),
+        Few::One(a) => write!(page, "({a})"),
+        Few::Two(a, b) => write!(page, "({a},{b})"),
+        Few::Three(a, b, c) => write!(page, "({a},{b},{c})"),
     }
-    page.text(")")
 }
 
 // Writes a fact: its name, and its arguments.
