@@ -11,8 +11,7 @@ use Rattle.words.specs.declared.marks.Mark.TheVariants as mark
 use Rattle.words.specs.declared.sorts.Sort.{Sort}
 use Rattle.words.specs.declared.sorts.Sort.TheVariants as sorts
 use Rattle.words.specs.Lex.{Lexeme, name, variable, number, Read, end, word, stray, long, value, fits, read_name, number_part, signed, by_sort, word_at}
-use Rattle.parse.specs.Raw.{raw_word}
-use Rattle.lexed.specs.Texts.{before, met, words_from, turns, WordByWord}
+use Rattle.lexed.specs.Texts.{met, words_from, turns, WordByWord}
 
 -- a word ends behind a place
 abbrev Moves : ℕ → Read → Type 0
@@ -110,7 +109,7 @@ past text k at h =
 
 onward : (text : List ℕ) (at k m : ℕ) (r : Read) → Moves at r → ((e : ℕ) → at < e → words_from k text e ≡ words_from m text e) → met text (words_from k text) r ≡ met text (words_from m text) r
 onward text at k m (end p) v so = refl
-onward text at k m (word l s e) v so = ap (before (s, raw_word s l)) (so e v)
+onward text at k m (word l s e) v so = ap (λ c. met text (λ _. c) (word l s e)) (so e v)
 onward text at k m (stray p s) v so = refl
 onward text at k m (long p s) v so = refl
 

@@ -49,6 +49,7 @@ Plain c = Raw (map (λ w. w.1) c.0)
 
 met_unmarked : (text : List ℕ) (rest : ℕ → Cut) (r : Read) → ((e : ℕ) → Plain (rest e)) → Plain (met text rest r)
 met_unmarked text rest (end p) so = tt
+met_unmarked text rest (word (lex.sign mark.Simplify) s e) so = (refl, so e)
 met_unmarked text rest (word l s e) so = (word_unmarked s l, so e)
 met_unmarked text rest (stray p s) so = tt
 met_unmarked text rest (long p s) so = tt

@@ -1,7 +1,9 @@
 -- One turn of the loop that collects words. Assumes nothing.
 use Rattle.std.proofs.Common.{◌≡◌, ℕ, ◌+◌, ◌<◌, List, [], ◌∷◌, ◌++◌, map, length, Some, None, Ok, Err, sym, refl, ap, ◌∙◌}
 use Rattle.std.proofs.lemmas.List.{append-nil, append_assoc}
+use Rattle.words.specs.declared.marks.Mark.TheVariants as mark
 use Rattle.words.specs.Lex.{Read, end, word, word_at, faulted, spells, seen}
+use Rattle.words.specs.Lex as lex
 use Rattle.words.specs.declared.word.Word.{Word}
 use Rattle.words.specs.declared.faults.LetterFault.{LetterFault}
 use Rattle.syntax.specs.Syntax.{W}
@@ -9,7 +11,7 @@ use Rattle.parse.specs.declared.token.Token.{Token}
 use Rattle.parse.specs.Tokens.{words}
 use Rattle.parse.specs.Raw.{raw_word}
 use Rattle.parse.specs.Raw.{placed}
-use Rattle.lexed.specs.Texts.{Cut, Ending, met, words_at, text_words, places}
+use Rattle.lexed.specs.Texts.{Cut, Ending, before, met, words_at, text_words, places}
 use Rattle.lexed.proofs.Advance.{ends_behind, word_by_word}
 
 -- words that were read, and what is left
@@ -27,6 +29,11 @@ pub starts : (text : List ℕ) (at : ℕ) (ws : List (ℕ × W)) → at ≡ 0 �
 unfolding text_words
 starts text at ws a b = ap (λ l. behind l (words_at text at)) b ∙ ap (words_at text) a
 
+-- a word that is met is the raw word, an arrow too
+met_raw : (text : List ℕ) (rest : ℕ → Cut) (l : lex.Lexeme) (s e : ℕ) → met text rest (word l s e) ≡ before (s, raw_word s l) (rest e)
+met_raw text rest (lex.sign mark.Simplify) s e = refl
+met_raw text rest l s e = refl
+
 module _ (text : List ℕ) (at : ℕ) (ws : List (ℕ × W)) (so : Reading text at ws) (held : List ℕ) (same : held ≡ text) where
   opened : (r : Read) → r ≡ word_at held at → behind ws (met text (words_at text) r) ≡ text_words text
   opened r e =
@@ -43,6 +50,7 @@ module _ (text : List ℕ) (at : ℕ) (ws : List (ℕ × W)) (so : Reading text 
       let left = words_at text p in
       ap (λ l. (l, left.1)) (append_assoc ws (x ∷ []) left.0)
       ∙ ap (λ y. behind ws (y ∷ left.0, left.1)) told
+      ∙ ap (behind ws) (sym (met_raw text (words_at text) (spells w.what) w.place p))
       ∙ opened (word (spells w.what) w.place p) e
 
   pub moved : (w : Word) (p : ℕ) → seen (Ok (Some w)) p ≡ word_at held at → at < p
