@@ -1,11 +1,12 @@
 -- Predicates in a table. Assumes nothing.
-use Rattle.std.proofs.Common.{◌≡◌, ℕ, suc, ◌+◌, ◌<◌, ◌≤◌, Bool, true, false, cond, not, ◌&&◌, ◌||◌, ltb, List, [], ◌∷◌, ◌++◌, map, length, get_or, drop, IsErrAnd, vec_len, Decides, Some, None, Result, sym, refl, ap, ◌∙◌, subst, arith}
+use Rattle.std.proofs.Common.{◌≡◌, ℕ, suc, ◌+◌, ◌<◌, ◌≤◌, Bool, true, false, cond, not, ◌&&◌, ◌||◌, ◌==◌, ltb, List, [], ◌∷◌, ◌++◌, map, length, get_or, drop, IsErrAnd, vec_len, Decides, Some, None, Result, sym, refl, ap, ◌∙◌, subst, arith}
 use Rattle.std.proofs.lemmas.Result.{err_from_is_err_and}
 use Rattle.std.proofs.lemmas.Bool.{cond_both, eq-eqb, ltb-true, ltb-false, cond-true, cond-false, false≢true, lt-ltb, le-ltb}
 use Rattle.std.proofs.lemmas.List.{drop_more, drop_all, length-map}
 use Rattle.syntax.specs.Grammar.{same_name}
 use Rattle.std.specs.List.{position, position_or_len}
-use Rattle.words.specs.Names.{name_bytes}
+use Rattle.words.specs.Names.{name_bytes, name_eq}
+use Rattle.words.proofs.Names.{spelled_alike}
 use Rattle.parse.specs.Model.{Mention}
 use Rattle.parse.proofs.Names.{same_yes, same_no}
 use Rattle.book.specs.declared.predicate.Predicate.{Predicate as Code}
@@ -20,9 +21,21 @@ pub decided : (r : Bool) (a b : List ℕ) → Decides r (a ≡ b) → r ≡ same
 decided true a b d = sym (same_yes a b (d.0 refl))
 decided false a b d = sym (same_no a b (λ e. false≢true (d.1 e)))
 
+-- `==` of two predicates is whether they agree
+pub agreeing : (k q : Code) → (name_eq k.name q.name && k.arity == q.arity) ≡ predicates_agree (coded k) (coded q)
+agreeing k q =
+    ap (λ b. b && k.arity == q.arity) (decided (name_eq k.name q.name) (name_bytes k.name) (name_bytes q.name) (spelled_alike k.name q.name))
+    ∙ and_swap (same_name (name_bytes k.name) (name_bytes q.name)) (k.arity == q.arity)
+  where
+    and_swap : (a b : Bool) → (a && b) ≡ (b && a)
+    and_swap true true = refl
+    and_swap true false = refl
+    and_swap false true = refl
+    and_swap false false = refl
+
 -- predicates with as many arguments agree exactly if their names do
-pub agreeing : (k q : Code) (r : Bool) → k.arity ≡ q.arity → Decides r (name_bytes k.name ≡ name_bytes q.name) → r ≡ predicates_agree (coded k) (coded q)
-agreeing k q r e d =
+pub agreeing_by_names : (k q : Code) (r : Bool) → k.arity ≡ q.arity → Decides r (name_bytes k.name ≡ name_bytes q.name) → r ≡ predicates_agree (coded k) (coded q)
+agreeing_by_names k q r e d =
     let a = name_bytes k.name in
     let b = name_bytes q.name in
     decided r a b d ∙ sym (ap (λ t. t && same_name a b) (eq-eqb k.arity q.arity e))
